@@ -188,7 +188,7 @@ foot_text scale bottom left_out mode trace =
 -- A picture with these lanes, and with so many left out.
 abbrev pub picture_text : Scale → List Lane → ℕ → TableVerdict → Told → Table → Recording → List ℕ
 picture_text scale lanes left_out verdict told table trace =
-    frame_text (lane_top (length lanes) + foot_height) verdict told table (counts_of scale trace)
+    frame_text (lane_top (length lanes) + foot_height) verdict told table trace.list (counts_of scale trace)
     ++ plot_text scale (lane_top (length lanes)) lanes told table trace
     ++ foot_text scale (lane_top (length lanes)) left_out table.mode trace ++ tail_text
 

@@ -199,6 +199,7 @@ fn put_picture<K: Sink>(
         verdict,
         told,
         table,
+        trace.list(),
         &counts,
     );
     put_plot(

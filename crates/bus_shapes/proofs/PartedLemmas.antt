@@ -4,7 +4,7 @@ use Rattle.std.proofs.Common.{inl, inr, arith, refl, sym, ap, ◌∙◌, append_
 use Rattle.std.specs.Prelude.{◌&&◌}
 use Rattle.std.proofs.lemmas.Bool.{cases_lt, lt-ltb}
 use Rattle.std.proofs.lemmas.Fmt.{decimal_digit, decimal_nonempty, decimal_step}
-use Rattle.bus_shapes.specs.Axes.{are_thousands, parted, thin_space}
+use Rattle.bus_shapes.specs.Numbers.{are_thousands, parted, thin_space}
 
 -- ---- digits
 abbrev digit : ℕ → List ℕ

@@ -4,26 +4,13 @@ use Rattle.std.specs.Prelude.{decimal, if◌then◌else◌}
 use Rattle.std.specs.List.{find, flat_map, range_with_len}
 use Rattle.std.specs.Option.{unwrap_or}
 use Rattle.bus_shapes.specs.Classes.{Number, Small}
+use Rattle.bus_shapes.specs.Numbers.{parted}
 use Rattle.bus_shapes.specs.Scales.{Scale, place}
 use Rattle.bus_shapes.specs.Shapes.{box_text, words_text}
 pub use Rattle.bus_shapes.specs.declared.axis.Axis.{Axis}
 pub use Rattle.bus_shapes.specs.declared.axis.Unit.{Unit}
 pub use Rattle.bus_shapes.specs.declared.axis.Unit.TheVariants.{Microseconds, BitTimes}
 use Rattle.bus_shapes.specs.Measures.{left_margin, mark_room, mark_width}
-
--- ---- numbers
--- The bytes of a thin space.
-abbrev pub thin_space : List ℕ
-thin_space = 226 ∷ (128 ∷ (137 ∷ []))
-
--- Whether thousands end before these digits: they are some, and a multiple of three.
-abbrev pub are_thousands : List ℕ → Bool
-are_thousands digits = nat_lt 0 (length digits) && length digits % 3 == 0
-
--- Digits, with a thin space wherever thousands end.
-abbrev pub parted : List ℕ → List ℕ
-parted [] = []
-parted (digit ∷ digits) = if are_thousands digits then digit ∷ (thin_space ++ parted digits) else digit ∷ parted digits
 
 -- ---- units
 -- The microseconds of a millisecond.

@@ -1,10 +1,11 @@
 -- The classes of boxes and words: what each is called in a picture, and how it looks. Blue and vermillion, by Okabe and Ito, are told
--- apart by a colour-blind person; what is garbled is hatched too, so that it shows in grey.
-use Rattle.std.specs.Prelude.{ℕ, Bool, List, [], ◌∷◌, ◌++◌, codes, if◌then◌else◌}
+-- apart by a colour-blind person. What shall be told apart in grey is so by its pattern: what is garbled is hatched one way, what lies behind
+-- the horizon the other way, and the line of a gap is dashed.
+use Rattle.std.specs.Prelude.{ℕ, Bool, true, false, List, [], ◌∷◌, ◌++◌, codes, if◌then◌else◌}
 use Rattle.std.specs.List.{flat_map}
 pub use Rattle.bus_shapes.specs.declared.class.Class.{Class}
 pub use Rattle.bus_shapes.specs.declared.class.Class.TheVariants.{Background, Band, Unobserved, Grid}
-pub use Rattle.bus_shapes.specs.declared.class.Class.TheVariants.{Tick, Span, Message, Garbled, Wordstring}
+pub use Rattle.bus_shapes.specs.declared.class.Class.TheVariants.{Tick, Span, Message, Garbled, GarbledNarrow, Wordstring}
 pub use Rattle.bus_shapes.specs.declared.class.Class.TheVariants.{Other, Label, Noise, Edge, Overlap, Gap, Interval, Mark, Breach, Fault}
 pub use Rattle.bus_shapes.specs.declared.class.Class.TheVariants.{Verdict, Refusal, Answer, Note, Counts}
 pub use Rattle.bus_shapes.specs.declared.class.Class.TheVariants.{Small, Detail, Number, Digits, NoiseDigits}
@@ -20,6 +21,7 @@ class_name Tick = codes "tick"
 class_name Span = codes "span"
 class_name Message = codes "message"
 class_name Garbled = codes "garbled"
+class_name GarbledNarrow = codes "narrow-garbled"
 class_name Wordstring = codes "wordstring"
 class_name Other = codes "other"
 class_name Label = codes "label"
@@ -49,20 +51,21 @@ class_name BreachWords = codes "breach-words"
 abbrev pub look : Class → List ℕ
 look Background = codes "fill:#fff"
 look Band = codes "fill:#f6f7f9"
-look Unobserved = codes "fill:#ddd"
+look Unobserved = codes "fill:url(#unseen)"
 look Grid = codes "fill:#d5d8dd"
 look Tick = codes "fill:#666"
 look Span = codes "fill:#555"
 look Message = codes "fill:#cfe3f3;stroke:#0072b2;stroke-width:10"
 look Garbled = codes "fill:url(#hatch);stroke:#a63a00;stroke-width:14"
+look GarbledNarrow = codes "fill:url(#clash)"
 look Wordstring = codes "fill:#00588f"
 look Other = codes "fill:#37799f"
 look Label = codes "fill:#00385c;pointer-events:none"
 look Noise = codes "fill:#d55e00;fill-opacity:.4"
 look Edge = codes "fill:#fff;pointer-events:none"
 look Overlap = codes "fill:#d55e00;fill-opacity:.2;pointer-events:none"
-look Gap = codes "fill:#b07800;pointer-events:none"
-look Interval = codes "fill:#009e73;pointer-events:none"
+look Gap = codes "fill:url(#dashes);pointer-events:none"
+look Interval = codes "fill:#00845f;pointer-events:none"
 look Mark = codes "fill:#000;fill-opacity:.6;pointer-events:none"
 look Breach = codes "fill:#000;pointer-events:none"
 look Fault = codes "fill:#000"
@@ -84,9 +87,15 @@ look BreachWords =
 -- The classes of every picture: of boxes, then of words.
 abbrev pub classes : List Class
 classes =
-    Background ∷ (Band ∷ (Unobserved ∷ (Grid ∷ (Tick ∷ (Span ∷ (Message ∷ (Garbled ∷ (Wordstring ∷ (Other ∷ (
+    Background ∷ (Band ∷ (Unobserved ∷ (Grid ∷ (Tick ∷ (Span ∷ (Message ∷ (Garbled ∷ (GarbledNarrow ∷ (Wordstring ∷ (Other ∷ (
     Label ∷ (Noise ∷ (Edge ∷ (Overlap ∷ (Gap ∷ (Interval ∷ (Mark ∷ (Breach ∷ (Verdict ∷ (Refusal ∷ (Answer ∷ (Note ∷ (Counts ∷ (
-    Small ∷ (Detail ∷ (Number ∷ (Digits ∷ (NoiseDigits ∷ (GapWords ∷ (IntervalWords ∷ (BreachWords ∷ []))))))))))))))))))))))))))))))
+    Small ∷ (Detail ∷ (Number ∷ (Digits ∷ (NoiseDigits ∷ (GapWords ∷ (IntervalWords ∷ (BreachWords ∷ [])))))))))))))))))))))))))))))))
+
+-- Whether a box of this class is of what is garbled: both are hatched, a narrow one across.
+abbrev pub is_hatched : Class → Bool
+is_hatched Garbled = true
+is_hatched GarbledNarrow = true
+is_hatched class = false
 
 -- The class of numbers and digits on a box: of a garbled transmission, which is hatched, or of another.
 abbrev pub digits_class : Bool → Class

@@ -1,11 +1,13 @@
 -- What stands around each picture: its head with the title and the style, the words above the plot, and its end.
 use Rattle.std.specs.Prelude.{ℕ, ◌/◌, List, [], ◌++◌, codes, decimal}
+use Rattle.bus_strings.specs.Messages.{Entry}
 use Rattle.bus_regime.specs.declared.table_verdict.TableVerdict.{TableVerdict}
 use Rattle.bus_regime.specs.Lines.{verdict_words}
 use Rattle.bus_table.specs.Tables.{Table}
 use Rattle.bus_shapes.specs.Classes.{Answer, Background, Fault, Note, rule_text, rules_text}
 use Rattle.bus_shapes.specs.Classes as classes
 use Rattle.bus_shapes.specs.Headings.{Told, Audit, Findings, told_heading, told_words, verdict_class, verdict_heading}
+use Rattle.bus_shapes.specs.Numbers.{parted}
 use Rattle.bus_shapes.specs.Sayings.{counted, table_words}
 use Rattle.bus_shapes.specs.Shapes.{Area, box_text, words_text}
 pub use Rattle.bus_shapes.specs.declared.counts.Counts.{Counts}
@@ -16,22 +18,30 @@ use Rattle.bus_shapes.specs.Measures.{answer_line, facts_line, head_line, left_m
 abbrev pub font_text : List ℕ
 font_text = codes "text{font-family:DejaVu Sans Mono,Menlo,Consolas,monospace;font-size:110px;fill:#222;pointer-events:none}\n"
 
--- The hatching of what is garbled.
+-- The patterns that are told apart in grey, each a ground and a stripe: the hatching of what is garbled, the stripes across what is too narrow
+-- for it, the hatching of what lies behind the horizon, the other way, and the dashes of a gap.
 abbrev pub hatch_text : List ℕ
 hatch_text =
     codes "<defs><pattern id=\"hatch\" width=\"80\" height=\"80\" patternUnits=\"userSpaceOnUse\" patternTransform=\"rotate(45)\">"
-    ++ codes "<rect width=\"80\" height=\"80\" fill=\"#ffd2a8\"/><rect width=\"24\" height=\"80\" fill=\"#d55e00\"/></pattern></defs>\n"
+    ++ codes "<rect width=\"80\" height=\"80\" fill=\"#ffd2a8\"/><rect width=\"24\" height=\"80\" fill=\"#d55e00\"/></pattern>\n"
+    ++ codes "<pattern id=\"clash\" width=\"40\" height=\"40\" patternUnits=\"userSpaceOnUse\">"
+    ++ codes "<rect width=\"40\" height=\"40\" fill=\"#ffd2a8\"/><rect width=\"40\" height=\"24\" fill=\"#a63a00\"/></pattern>\n"
+    ++ codes "<pattern id=\"unseen\" width=\"70\" height=\"70\" patternUnits=\"userSpaceOnUse\" patternTransform=\"rotate(-45)\">"
+    ++ codes "<rect width=\"70\" height=\"70\" fill=\"#eceef1\"/><rect width=\"16\" height=\"70\" fill=\"#a4abb5\"/></pattern>\n"
+    ++ codes "<pattern id=\"dashes\" width=\"60\" height=\"60\" patternUnits=\"userSpaceOnUse\">"
+    ++ codes "<rect width=\"60\" height=\"60\" fill=\"#e6cd98\"/><rect width=\"36\" height=\"60\" fill=\"#8a5f00\"/></pattern></defs>\n"
 
 -- What is drawn in another colour in a dark scheme, where the viewer asks for one, with contrasts as great.
 abbrev pub dark_text : List ℕ
 dark_text =
     codes "@media(prefers-color-scheme:dark){\n"
     ++ codes "text,.note{fill:#e6e8eb}.small,.detail{fill:#aab2bd}.gap-words{fill:#e8b75a}.interval-words{fill:#5fd6b0}\n"
-    ++ codes ".refusal{fill:#ff9a4d}.digits{fill:#fff}.noise-digits,.breach-words{fill:#fff;stroke:#14171b}\n"
-    ++ codes ".background,.edge{fill:#14171b}.band{fill:#1b1f25}.unobserved{fill:#2c3138}.grid{fill:#333a43}.tick,.span{fill:#9aa2ad}\n"
-    ++ codes ".message{fill:#17344a;stroke:#56b4e9}.garbled{stroke:#ff9a4d}#hatch rect{fill:#5a2b00}#hatch rect+rect{fill:#e8741e}\n"
-    ++ codes ".wordstring{fill:#1f6fa5}.other{fill:#3d7690}.label{fill:#0a4a73}\n"
-    ++ codes ".gap{fill:#e0a030}.interval{fill:#2fc79a}.mark,.breach{fill:#fff}}\n"
+    ++ codes ".refusal{fill:#ff9a4d}.digits{fill:#000}.noise-digits,.breach-words{fill:#fff;stroke:#14171b}\n"
+    ++ codes ".background,.edge{fill:#14171b}.band{fill:#1b1f25}.grid{fill:#333a43}.tick,.span{fill:#9aa2ad}\n"
+    ++ codes ".message{fill:#17344a;stroke:#56b4e9}.wordstring{fill:#6fb7e6}.other{fill:#3f86b4}.label{fill:#b9def7}\n"
+    ++ codes ".garbled{stroke:#ff9a4d}#hatch rect{fill:#5a2b00}#hatch rect+rect{fill:#e8741e}\n"
+    ++ codes "#clash rect{fill:#5a2b00}#clash rect+rect{fill:#ff9a4d}#unseen rect{fill:#23282f}#unseen rect+rect{fill:#596270}\n"
+    ++ codes "#dashes rect{fill:#5c4410}#dashes rect+rect{fill:#e0a030}.interval{fill:#2fc79a}.mark,.breach{fill:#fff}}\n"
 
 -- The style of a picture: its words, its classes, those of a dark scheme, and the hatching.
 abbrev pub style_text : List ℕ
@@ -59,31 +69,33 @@ title_text verdict told = codes "<title>" ++ verdict ++ codes "; " ++ told ++ co
 -- What is shown of a trace: its moments, how many transmissions that is, and how many of these are garbled.
 abbrev pub counts_words : Counts → List ℕ
 counts_words counts =
-    codes "moments " ++ decimal counts.from ++ codes " to " ++ decimal counts.to ++ codes " of " ++ decimal counts.horizon
-    ++ codes ": " ++ counted counts.shown (codes "transmission") ++ codes ", " ++ decimal counts.garbled ++ codes " garbled"
+    codes "moments " ++ parted (decimal counts.from) ++ codes " to " ++ parted (decimal counts.to) ++ codes " of "
+    ++ parted (decimal counts.horizon)
+    ++ codes ": " ++ counted counts.shown (codes "transmission") ++ codes ", " ++ parted (decimal counts.garbled) ++ codes " garbled"
 
 -- The background of a picture of this height.
 abbrev pub background : ℕ → Area
 background height = record { left = 0; top = 0; width = picture_width; height = height }
 
--- The headings of the verdict and of what is told of the trace, a line each. Of the longest, a breach in the longest trace, the last letter ends 1780 units
--- before the right margin, where a picture may put a few words of its own.
-abbrev pub heads_text : TableVerdict → Told → List ℕ
-heads_text verdict told =
+-- The headings of the verdict and of what is told of the trace, a line each. Of the longest, a breach in the longest trace, the last letter
+-- ends 960 units before the right margin, where a picture may put a few words of its own.
+abbrev pub heads_text : TableVerdict → Told → List Entry → List ℕ
+heads_text verdict told list =
     words_text (verdict_class verdict) left_margin head_line (verdict_heading verdict)
-    ++ words_text Answer left_margin answer_line (told_heading told)
+    ++ words_text Answer left_margin answer_line (told_heading list told)
 
--- The words of the table, and the counts. They have room for 151 letters, and with counts of ten digits are 141 at most.
+-- The words of the table, and the counts. They have room for 151 letters, and with moments of ten digits and counts of seven are 141 at
+-- most.
 abbrev pub facts_text : Table → Counts → List ℕ
 facts_text table counts =
     words_text Note left_margin facts_line (table_words table)
     ++ words_text classes.Counts right_margin facts_line (counts_words counts)
 
--- All that stands before the plot of a picture of this height.
-abbrev pub frame_text : ℕ → TableVerdict → Told → Table → Counts → List ℕ
-frame_text height verdict told table counts =
+-- All that stands before the plot of a picture of this height, of a list.
+abbrev pub frame_text : ℕ → TableVerdict → Told → Table → List Entry → Counts → List ℕ
+frame_text height verdict told table list counts =
     size_text height ++ title_text (verdict_words verdict) (told_words told) ++ style_text ++ told_style told ++ box_text Background (background height)
-    ++ heads_text verdict told ++ facts_text table counts
+    ++ heads_text verdict told list ++ facts_text table counts
 
 -- The end of a picture.
 abbrev pub tail_text : List ℕ

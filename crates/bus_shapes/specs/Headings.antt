@@ -1,8 +1,9 @@
 -- The heading of a picture: what the verdict on the table comes to, and what is told of the trace, in words. Times are in bit times, and those
 -- of a cycle and of a breach in microseconds too.
-use Rattle.std.specs.Prelude.{ℕ, List, ◌++◌, codes}
+use Rattle.std.specs.Prelude.{ℕ, List, ◌++◌, codes, Option, Some, None}
 use Rattle.std.specs.Fmt.{decimal, signed_decimal}
-use Rattle.bus_strings.specs.Microseconds.{microseconds, microseconds_unit}
+use Rattle.bus_strings.specs.Messages.{Entry}
+use Rattle.bus_strings.specs.Microseconds.{microseconds_unit}
 use Rattle.bus_audit.specs.declared.answer.AuditAnswer.{AuditAnswer}
 use Rattle.bus_audit.specs.declared.answer.AuditAnswer.TheVariants.{Lawful, Breach}
 use Rattle.bus_audit.specs.declared.answer.BreachKind.{BreachKind}
@@ -17,7 +18,9 @@ use Rattle.bus_findings.specs.declared.judgement.Judgement.{Judgement}
 use Rattle.bus_findings.specs.Terminals.{fault_sum}
 use Rattle.bus_findings.specs.Texts.{within_words}
 use Rattle.bus_shapes.specs.Classes.{Class, Verdict, Refusal}
-use Rattle.bus_shapes.specs.Sayings.{counted}
+use Rattle.bus_shapes.specs.Later.{later}
+use Rattle.bus_shapes.specs.Numbers.{parted, parted_microseconds}
+use Rattle.bus_shapes.specs.Sayings.{counted, plainly_counted}
 pub use Rattle.bus_shapes.specs.declared.told.Told.{Told}
 pub use Rattle.bus_shapes.specs.declared.told.Told.TheVariants.{Audit, Findings}
 
@@ -25,22 +28,22 @@ pub use Rattle.bus_shapes.specs.declared.told.Told.TheVariants.{Audit, Findings}
 -- An acceptance: the shortest and the longest cycle, which in periodic mode are one.
 abbrev pub accept_heading : Mode → ℕ → ℕ → List ℕ
 accept_heading Aperiodic least most =
-    codes "ACCEPT aperiodic, cycle " ++ decimal least ++ codes " to " ++ decimal most ++ codes " bit times (" ++ microseconds least
-    ++ codes " to " ++ microseconds most ++ microseconds_unit ++ codes ")"
+    codes "ACCEPT aperiodic, cycle " ++ parted (decimal least) ++ codes " to " ++ parted (decimal most) ++ codes " bit times (" ++ parted_microseconds least
+    ++ codes " to " ++ parted_microseconds most ++ microseconds_unit ++ codes ")"
 accept_heading Periodic least most =
-    codes "ACCEPT periodic, cycle " ++ decimal least ++ codes " bit times (" ++ microseconds least ++ microseconds_unit ++ codes ")"
+    codes "ACCEPT periodic, cycle " ++ parted (decimal least) ++ codes " bit times (" ++ parted_microseconds least ++ microseconds_unit ++ codes ")"
 
 -- A verdict.
 abbrev pub verdict_heading : TableVerdict → List ℕ
 verdict_heading (Accept mode least most) = accept_heading mode least most
 verdict_heading (ShortCycle least ti) =
-    codes "REFUSE: shortest cycle " ++ decimal least ++ codes " bit times, below TI " ++ decimal ti
+    codes "REFUSE: shortest cycle " ++ parted (decimal least) ++ codes " bit times, below TI " ++ parted (decimal ti)
 verdict_heading (SmallGap terminal gap needed) =
     codes "REFUSE: gap before terminal " ++ decimal terminal ++ codes " is " ++ signed_decimal gap ++ codes " bit times, below TG "
-    ++ decimal needed
+    ++ parted (decimal needed)
 verdict_heading (NoSync terminal gap needed) =
-    codes "REFUSE: no gap for SG, gap before terminal " ++ decimal terminal ++ codes " is " ++ decimal gap
-    ++ codes " bit times, below SG + TG " ++ decimal needed
+    codes "REFUSE: no gap for SG, gap before terminal " ++ decimal terminal ++ codes " is " ++ parted (decimal gap)
+    ++ codes " bit times, below SG + TG " ++ parted (decimal needed)
 
 -- How it looks: a refusal isn't to be taken for an acceptance.
 abbrev pub verdict_class : TableVerdict → Class
@@ -50,30 +53,39 @@ verdict_class (SmallGap terminal gap needed) = Refusal
 verdict_class (NoSync terminal gap needed) = Refusal
 
 -- ---- the audit
--- What a terminal does that breaches.
-abbrev pub breach_words : BreachKind → List ℕ
-breach_words Stranger = codes " starts and is no sender"
-breach_words Unheld = codes " starts and has no message left"
-breach_words Early = codes " starts before its timers allow it"
-breach_words Misfit = codes " sends what its lines don't allow"
-breach_words Missing = codes " should start and doesn't"
+-- What a terminal does that doesn't start where it should: it starts so many bit times later, or not any more.
+abbrev pub missing_words : Option ℕ → List ℕ
+missing_words None = codes " should start and doesn't"
+missing_words (Some n) = codes " starts " ++ counted n (codes "bit time") ++ codes " later"
 
--- What an audit found.
-abbrev pub answer_heading : AuditAnswer → List ℕ
-answer_heading (Lawful collided) = codes "LAWFUL, " ++ counted collided (codes "transmission") ++ codes " collided"
-answer_heading (Breach moment terminal kind) =
-    codes "BREACH at " ++ decimal moment ++ codes " (" ++ microseconds moment ++ microseconds_unit ++ codes "): terminal "
-    ++ decimal terminal ++ breach_words kind
+-- What a terminal does that breaches at a moment of a list.
+abbrev pub breach_words : List Entry → ℕ → ℕ → BreachKind → List ℕ
+breach_words list moment terminal Stranger = codes " starts and is no sender"
+breach_words list moment terminal Unheld = codes " starts and has no message left"
+breach_words list moment terminal Early = codes " starts before its timers allow it"
+breach_words list moment terminal Misfit = codes " sends what its lines don't allow"
+breach_words list moment terminal Missing = missing_words (later moment terminal list)
+
+-- That nothing is wrong.
+abbrev pub lawful_heading : ℕ → List ℕ
+lawful_heading collided = codes "LAWFUL, " ++ counted collided (codes "transmission") ++ codes " collided"
+
+-- What an audit found in a list.
+abbrev pub answer_heading : List Entry → AuditAnswer → List ℕ
+answer_heading list (Lawful collided) = lawful_heading collided
+answer_heading list (Breach moment terminal kind) =
+    codes "BREACH at " ++ parted (decimal moment) ++ codes " (" ++ parted_microseconds moment ++ microseconds_unit ++ codes "): terminal "
+    ++ decimal terminal ++ breach_words list moment terminal kind
 
 -- ---- what is told of the trace
 -- As a recording of a bus within bounds: these, and how many faults are found.
 abbrev pub findings_heading : Bounds → List Judgement → List ℕ
-findings_heading bounds judgements = within_words bounds ++ codes ": " ++ counted (fault_sum judgements) (codes "fault")
+findings_heading bounds judgements = within_words bounds ++ codes ": " ++ plainly_counted (fault_sum judgements) (codes "fault")
 
--- What an audit found, or that.
-abbrev pub told_heading : Told → List ℕ
-told_heading (Audit answer) = answer_heading answer
-told_heading (Findings bounds judgements) = findings_heading bounds judgements.items
+-- What an audit found in a list, or that.
+abbrev pub told_heading : List Entry → Told → List ℕ
+told_heading list (Audit answer) = answer_heading list answer
+told_heading list (Findings bounds judgements) = findings_heading bounds judgements.items
 
 -- The same in a title, where an audit's is its line.
 abbrev pub told_words : Told → List ℕ

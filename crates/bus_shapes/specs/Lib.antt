@@ -2,12 +2,15 @@
 pub mod Measures
 pub mod Classes
 pub mod Shapes
+pub mod Numbers
 pub mod Sayings
 pub mod Sending
 pub mod SendingLaws
 pub mod Scales
 pub mod Axes
 pub mod Frames
+pub mod Later
+pub mod LaterLaws
 pub mod Headings
 pub mod Laws
 pub mod inside

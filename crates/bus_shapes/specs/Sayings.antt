@@ -4,21 +4,26 @@ use Rattle.std.specs.Prelude.{if◌then◌else◌}
 use Rattle.bus_table.specs.declared.mode.Mode.{Mode}
 use Rattle.bus_table.specs.Tables.{Table}
 use Rattle.bus_table.specs.Text.{mode_word}
+use Rattle.bus_shapes.specs.Numbers.{parted}
 pub use Rattle.bus_shapes.specs.declared.sent.Sent.{Sent}
 
 -- The ending of the name of so many.
 abbrev pub ending : ℕ → List ℕ
 ending count = if nat_eq count 1 then [] else codes "s"
 
--- So many of something, which has this name where it is one.
+-- So many of something, which has this name where it is one, with the thousands together.
+abbrev pub plainly_counted : ℕ → List ℕ → List ℕ
+plainly_counted count name = decimal count ++ codes " " ++ name ++ ending count
+
+-- The same with the thousands parted.
 abbrev pub counted : ℕ → List ℕ → List ℕ
-counted count name = decimal count ++ codes " " ++ name ++ ending count
+counted count name = parted (decimal count) ++ codes " " ++ name ++ ending count
 
 -- ---- a table
 -- A mode, the transmit interval, the synchronization gap, and how many senders there are.
 abbrev pub summary_words : Mode → ℕ → ℕ → ℕ → List ℕ
 summary_words mode ti sg senders =
-    mode_word mode ++ codes " TI " ++ decimal ti ++ codes " SG " ++ decimal sg ++ codes ", " ++ counted senders (codes "sender")
+    mode_word mode ++ codes " TI " ++ parted (decimal ti) ++ codes " SG " ++ parted (decimal sg) ++ codes ", " ++ counted senders (codes "sender")
 
 -- The same of a table.
 abbrev pub table_words : Table → List ℕ

@@ -8,6 +8,7 @@ ghost use Rattle.bus_shapes.specs.Scales.{IsScale};
 use crate::area::Area;
 use crate::class::Class;
 use crate::measures::{LEFT_MARGIN, MARK_ROOM, MARK_WIDTH};
+use crate::number::put_parted;
 use crate::scale::Scale;
 use crate::shapes::{begin_words, end_words, put_box};
 use bus_outer::{Sink, TextBuffer};
@@ -151,33 +152,6 @@ fn step(scale: &Scale) -> u64
     ensures low { result ≤ 2 ^ 45 }
 {
     wide_apart(scale).unwrap_or(MOST_APART) * 2
-}
-
-/// The three digits of a number below 1000.
-fn put_three<K: Sink>(text: &mut TextBuffer, sink: &mut K, number: u64)
-    requires { number < 1000 }
-    ensures { Adds K.held K.faults sink.old sink.new text.old text.new
-        ((48 + number / 100) ∷ ((48 + number / 10 % 10) ∷ ((48 + number % 10) ∷ []))) }
-{
-    let digits = [
-        b'0' + (number / 100) as u8,
-        b'0' + (number / 10 % 10) as u8,
-        b'0' + (number % 10) as u8,
-    ];
-    text.put(sink, &digits);
-}
-
-/// Puts a number, with a thin space between its thousands.
-pub fn put_parted<K: Sink>(text: &mut TextBuffer, sink: &mut K, number: u64)
-    ensures { Adds K.held K.faults sink.old sink.new text.old text.new (definition.parted (decimal number)) }
-{
-    if number < 1000 {
-        text.put_number(sink, number);
-        return;
-    }
-    put_parted(text, sink, number / 1000);
-    text.put(sink, b"\xe2\x80\x89");
-    put_three(text, sink, number % 1000);
 }
 
 /// A mark at a place: its line, and its number.

@@ -26,6 +26,8 @@ pub enum Class {
     Message,
     /// A garbled transmission: hatched.
     Garbled,
+    /// One that is too narrow for a hatching within a stroke: striped across.
+    GarbledNarrow,
     /// A wordstring of a transmission.
     Wordstring,
     /// A wordstring or a transmission, told from its neighbours by another shade.
@@ -77,7 +79,7 @@ pub enum Class {
 }
 
 /// The classes of every picture.
-const CLASSES: [Class; 31] = [
+const CLASSES: [Class; 32] = [
     Class::Background,
     Class::Band,
     Class::Unobserved,
@@ -86,6 +88,7 @@ const CLASSES: [Class; 31] = [
     Class::Span,
     Class::Message,
     Class::Garbled,
+    Class::GarbledNarrow,
     Class::Wordstring,
     Class::Other,
     Class::Label,
@@ -125,6 +128,7 @@ impl Class {
             Class::Span => b"span",
             Class::Message => b"message",
             Class::Garbled => b"garbled",
+            Class::GarbledNarrow => b"narrow-garbled",
             Class::Wordstring => b"wordstring",
             Class::Other => b"other",
             Class::Label => b"label",
@@ -159,20 +163,21 @@ impl Class {
         match self {
             Class::Background => b"fill:#fff",
             Class::Band => b"fill:#f6f7f9",
-            Class::Unobserved => b"fill:#ddd",
+            Class::Unobserved => b"fill:url(#unseen)",
             Class::Grid => b"fill:#d5d8dd",
             Class::Tick => b"fill:#666",
             Class::Span => b"fill:#555",
             Class::Message => b"fill:#cfe3f3;stroke:#0072b2;stroke-width:10",
             Class::Garbled => b"fill:url(#hatch);stroke:#a63a00;stroke-width:14",
+            Class::GarbledNarrow => b"fill:url(#clash)",
             Class::Wordstring => b"fill:#00588f",
             Class::Other => b"fill:#37799f",
             Class::Label => b"fill:#00385c;pointer-events:none",
             Class::Noise => b"fill:#d55e00;fill-opacity:.4",
             Class::Edge => b"fill:#fff;pointer-events:none",
             Class::Overlap => b"fill:#d55e00;fill-opacity:.2;pointer-events:none",
-            Class::Gap => b"fill:#b07800;pointer-events:none",
-            Class::Interval => b"fill:#009e73;pointer-events:none",
+            Class::Gap => b"fill:url(#dashes);pointer-events:none",
+            Class::Interval => b"fill:#00845f;pointer-events:none",
             Class::Mark => b"fill:#000;fill-opacity:.6;pointer-events:none",
             Class::Breach => b"fill:#000;pointer-events:none",
             Class::Fault => b"fill:#000",

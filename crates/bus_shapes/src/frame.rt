@@ -15,10 +15,12 @@ use crate::heading::{put_told, put_told_heading, put_verdict_heading, verdict_cl
 use crate::measures::{
     ANSWER_LINE, FACTS_LINE, HEAD_LINE, LEFT_MARGIN, PICTURE_WIDTH, PIXEL, RIGHT_MARGIN,
 };
+use crate::number::put_parted;
 use crate::shapes::{begin_words, end_words, put_box};
 use crate::told::Told;
 use bus_outer::{Sink, TextBuffer};
 use bus_regime::{TableVerdict, put_verdict};
+use bus_strings::Transmission;
 use bus_table::{Mode, Table, put_mode};
 
 /// The style of all classes, in a light and in a dark scheme, and the hatching of what is garbled.
@@ -54,27 +56,31 @@ fn put_dark<K: Sink>(text: &mut TextBuffer, sink: &mut K)
     );
     text.put(
         sink,
-        b".refusal{fill:#ff9a4d}.digits{fill:#fff}.noise-digits,.breach-words{fill:#fff;stroke:#14171b}\n",
+        b".refusal{fill:#ff9a4d}.digits{fill:#000}.noise-digits,.breach-words{fill:#fff;stroke:#14171b}\n",
     );
     text.put(
         sink,
-        b".background,.edge{fill:#14171b}.band{fill:#1b1f25}.unobserved{fill:#2c3138}.grid{fill:#333a43}.tick,.span{fill:#9aa2ad}\n",
+        b".background,.edge{fill:#14171b}.band{fill:#1b1f25}.grid{fill:#333a43}.tick,.span{fill:#9aa2ad}\n",
     );
     text.put(
         sink,
-        b".message{fill:#17344a;stroke:#56b4e9}.garbled{stroke:#ff9a4d}#hatch rect{fill:#5a2b00}#hatch rect+rect{fill:#e8741e}\n",
+        b".message{fill:#17344a;stroke:#56b4e9}.wordstring{fill:#6fb7e6}.other{fill:#3f86b4}.label{fill:#b9def7}\n",
     );
     text.put(
         sink,
-        b".wordstring{fill:#1f6fa5}.other{fill:#3d7690}.label{fill:#0a4a73}\n",
+        b".garbled{stroke:#ff9a4d}#hatch rect{fill:#5a2b00}#hatch rect+rect{fill:#e8741e}\n",
     );
     text.put(
         sink,
-        b".gap{fill:#e0a030}.interval{fill:#2fc79a}.mark,.breach{fill:#fff}}\n",
+        b"#clash rect{fill:#5a2b00}#clash rect+rect{fill:#ff9a4d}#unseen rect{fill:#23282f}#unseen rect+rect{fill:#596270}\n",
+    );
+    text.put(
+        sink,
+        b"#dashes rect{fill:#5c4410}#dashes rect+rect{fill:#e0a030}.interval{fill:#2fc79a}.mark,.breach{fill:#fff}}\n",
     );
 }
 
-/// The hatching of what is garbled.
+/// The patterns that are told apart in grey.
 fn put_hatch<K: Sink>(text: &mut TextBuffer, sink: &mut K)
     ensures { Adds K.held K.faults sink.old sink.new text.old text.new definition.hatch_text }
 {
@@ -84,7 +90,31 @@ fn put_hatch<K: Sink>(text: &mut TextBuffer, sink: &mut K)
     );
     text.put(
         sink,
-        b"<rect width=\"80\" height=\"80\" fill=\"#ffd2a8\"/><rect width=\"24\" height=\"80\" fill=\"#d55e00\"/></pattern></defs>\n",
+        b"<rect width=\"80\" height=\"80\" fill=\"#ffd2a8\"/><rect width=\"24\" height=\"80\" fill=\"#d55e00\"/></pattern>\n",
+    );
+    text.put(
+        sink,
+        b"<pattern id=\"clash\" width=\"40\" height=\"40\" patternUnits=\"userSpaceOnUse\">",
+    );
+    text.put(
+        sink,
+        b"<rect width=\"40\" height=\"40\" fill=\"#ffd2a8\"/><rect width=\"40\" height=\"24\" fill=\"#a63a00\"/></pattern>\n",
+    );
+    text.put(
+        sink,
+        b"<pattern id=\"unseen\" width=\"70\" height=\"70\" patternUnits=\"userSpaceOnUse\" patternTransform=\"rotate(-45)\">",
+    );
+    text.put(
+        sink,
+        b"<rect width=\"70\" height=\"70\" fill=\"#eceef1\"/><rect width=\"16\" height=\"70\" fill=\"#a4abb5\"/></pattern>\n",
+    );
+    text.put(
+        sink,
+        b"<pattern id=\"dashes\" width=\"60\" height=\"60\" patternUnits=\"userSpaceOnUse\">",
+    );
+    text.put(
+        sink,
+        b"<rect width=\"60\" height=\"60\" fill=\"#e6cd98\"/><rect width=\"36\" height=\"60\" fill=\"#8a5f00\"/></pattern></defs>\n",
     );
 }
 
@@ -148,11 +178,11 @@ fn put_ending<K: Sink>(text: &mut TextBuffer, sink: &mut K, count: u64)
     }
 }
 
-/// Puts how many there are of something, which has this name where it is one.
+/// Puts how many there are of something, which has this name where it is one, with a thin space between the thousands.
 pub fn put_counted<K: Sink>(text: &mut TextBuffer, sink: &mut K, count: u64, name: &[u8])
     ensures { Adds K.held K.faults sink.old sink.new text.old text.new (counted count name.now) }
 {
-    text.put_number(sink, count);
+    put_parted(text, sink, count);
     text.put_byte(sink, b' ');
     text.put(sink, name);
     put_ending(text, sink, count);
@@ -178,9 +208,9 @@ fn put_summary<K: Sink>(
 {
     put_mode(text, sink, mode);
     text.put(sink, b" TI ");
-    text.put_number(sink, ti);
+    put_parted(text, sink, u64::from(ti));
     text.put(sink, b" SG ");
-    text.put_number(sink, sg);
+    put_parted(text, sink, u64::from(sg));
     text.put(sink, b", ");
     put_counted(text, sink, senders, b"sender");
 }
@@ -199,28 +229,34 @@ fn put_counts<K: Sink>(text: &mut TextBuffer, sink: &mut K, counts: &Counts)
     ensures { Adds K.held K.faults sink.old sink.new text.old text.new (definition.counts_words counts.now) }
 {
     text.put(sink, b"moments ");
-    text.put_number(sink, counts.from);
+    put_parted(text, sink, counts.from);
     text.put(sink, b" to ");
-    text.put_number(sink, counts.to);
+    put_parted(text, sink, counts.to);
     text.put(sink, b" of ");
-    text.put_number(sink, counts.horizon);
+    put_parted(text, sink, counts.horizon);
     text.put(sink, b": ");
     put_counted(text, sink, counts.shown, b"transmission");
     text.put(sink, b", ");
-    text.put_number(sink, counts.garbled);
+    put_parted(text, sink, counts.garbled);
     text.put(sink, b" garbled");
 }
 
 /// The words of the verdict, and of what is told of the trace.
-fn put_heads<K: Sink>(text: &mut TextBuffer, sink: &mut K, verdict: &TableVerdict, told: &Told)
+fn put_heads<K: Sink>(
+    text: &mut TextBuffer,
+    sink: &mut K,
+    verdict: &TableVerdict,
+    told: &Told,
+    list: &[Transmission],
+)
     ensures { Adds K.held K.faults sink.old sink.new text.old text.new
-        (definition.heads_text verdict.now told.now) }
+        (definition.heads_text verdict.now told.now list.now) }
 {
     begin_words(text, sink, verdict_class(verdict), LEFT_MARGIN, HEAD_LINE);
     put_verdict_heading(text, sink, verdict);
     end_words(text, sink);
     begin_words(text, sink, Class::Answer, LEFT_MARGIN, ANSWER_LINE);
-    put_told_heading(text, sink, told);
+    put_told_heading(text, sink, told, list);
     end_words(text, sink);
 }
 
@@ -237,7 +273,8 @@ fn put_facts<K: Sink>(text: &mut TextBuffer, sink: &mut K, table: &Table, counts
 }
 
 /// Puts all that stands before the plot of a picture of this height, in units of a tenth of a pixel: its head, whose title has the words
-/// of the verdict and of what is told of the trace, its background, the headings of both, the words of the table, and the counts.
+/// of the verdict and of what is told of the trace, whose list this is, its background, the headings of both, the words of the table, and
+/// the counts. It goes over the list up to a late start.
 pub fn put_frame<K: Sink>(
     text: &mut TextBuffer,
     sink: &mut K,
@@ -245,10 +282,11 @@ pub fn put_frame<K: Sink>(
     verdict: &TableVerdict,
     told: &Told,
     table: &Table,
+    list: &[Transmission],
     counts: &Counts,
 )
     ensures { Adds K.held K.faults sink.old sink.new text.old text.new
-        (frame_text height verdict.now told.now table.now counts.now) }
+        (frame_text height verdict.now told.now table.now list.now counts.now) }
 {
     put_size(text, sink, height);
     put_title(text, sink, verdict, told);
@@ -261,7 +299,7 @@ pub fn put_frame<K: Sink>(
         height,
     };
     put_box(text, sink, Class::Background, area);
-    put_heads(text, sink, verdict, told);
+    put_heads(text, sink, verdict, told, list);
     put_facts(text, sink, table, counts);
 }
 

@@ -1,21 +1,23 @@
 //! The heading of a picture, in words.
-ghost use Rattle.std.specs.Prelude.{◌≡◌, codes};
+ghost use Rattle.std.specs.Prelude.{◌≡◌, codes, Some};
 ghost use Rattle.bus_outer.specs.Texts.{Adds};
-ghost use Rattle.bus_audit.specs.declared.answer.AuditAnswer.TheVariants.{Lawful, Breach};
+ghost use Rattle.bus_audit.specs.declared.answer.AuditAnswer.TheVariants.{Breach};
 ghost use Rattle.bus_regime.specs.declared.table_verdict.TableVerdict.TheVariants.{ShortCycle, SmallGap, NoSync};
 ghost use Rattle.bus_table.specs.declared.mode.Mode.TheVariants.{Aperiodic, Periodic};
 ghost use Rattle.bus_shapes.specs.Headings as definition;
-ghost use Rattle.bus_shapes.specs.Sayings.{counted};
+ghost use Rattle.bus_shapes.specs.Sayings.{plainly_counted};
 
 use crate::class::Class;
 use crate::frame::put_counted;
+use crate::later::later;
+use crate::number::{put_parted, put_parted_microseconds};
 use crate::told::Told;
 use bus_audit::{AuditAnswer, BreachKind, put_answer};
 use bus_bounds::Bounds;
 use bus_findings::{Judgement, fault_sum, put_within};
 use bus_outer::{Sink, TextBuffer};
 use bus_regime::TableVerdict;
-use bus_strings::{put_microseconds, put_microseconds_unit};
+use bus_strings::{Transmission, put_microseconds_unit};
 use bus_table::Mode;
 
 /// An acceptance in aperiodic mode.
@@ -23,13 +25,13 @@ fn put_aperiodic<K: Sink>(text: &mut TextBuffer, sink: &mut K, least: u64, most:
     ensures { Adds K.held K.faults sink.old sink.new text.old text.new (definition.accept_heading Aperiodic least most) }
 {
     text.put(sink, b"ACCEPT aperiodic, cycle ");
-    text.put_number(sink, least);
+    put_parted(text, sink, least);
     text.put(sink, b" to ");
-    text.put_number(sink, most);
+    put_parted(text, sink, most);
     text.put(sink, b" bit times (");
-    put_microseconds(text, sink, u128::from(least));
+    put_parted_microseconds(text, sink, least);
     text.put(sink, b" to ");
-    put_microseconds(text, sink, u128::from(most));
+    put_parted_microseconds(text, sink, most);
     put_microseconds_unit(text, sink);
     text.put(sink, b")");
 }
@@ -40,9 +42,9 @@ fn put_periodic<K: Sink>(text: &mut TextBuffer, sink: &mut K, least: u64, most: 
 {
     let _interval = most;
     text.put(sink, b"ACCEPT periodic, cycle ");
-    text.put_number(sink, least);
+    put_parted(text, sink, least);
     text.put(sink, b" bit times (");
-    put_microseconds(text, sink, u128::from(least));
+    put_parted_microseconds(text, sink, least);
     put_microseconds_unit(text, sink);
     text.put(sink, b")");
 }
@@ -62,9 +64,9 @@ fn put_short_cycle<K: Sink>(text: &mut TextBuffer, sink: &mut K, least: u64, ti:
     ensures { Adds K.held K.faults sink.old sink.new text.old text.new (definition.verdict_heading (ShortCycle least ti)) }
 {
     text.put(sink, b"REFUSE: shortest cycle ");
-    text.put_number(sink, least);
+    put_parted(text, sink, least);
     text.put(sink, b" bit times, below TI ");
-    text.put_number(sink, ti);
+    put_parted(text, sink, ti);
 }
 
 /// A refusal for a small gap.
@@ -76,7 +78,7 @@ fn put_small_gap<K: Sink>(text: &mut TextBuffer, sink: &mut K, terminal: u8, gap
     text.put(sink, b" is ");
     text.put_signed(sink, gap);
     text.put(sink, b" bit times, below TG ");
-    text.put_number(sink, needed);
+    put_parted(text, sink, needed);
 }
 
 /// A refusal for want of a synchronization gap.
@@ -86,9 +88,9 @@ fn put_no_sync<K: Sink>(text: &mut TextBuffer, sink: &mut K, terminal: u8, gap: 
     text.put(sink, b"REFUSE: no gap for SG, gap before terminal ");
     text.put_number(sink, terminal);
     text.put(sink, b" is ");
-    text.put_number(sink, gap);
+    put_parted(text, sink, gap);
     text.put(sink, b" bit times, below SG + TG ");
-    text.put_number(sink, needed);
+    put_parted(text, sink, needed);
 }
 
 /// Puts a verdict.
@@ -127,51 +129,83 @@ pub(crate) fn verdict_class(verdict: &TableVerdict) -> Class
     }
 }
 
-/// What a terminal does that breaches.
-fn put_breach_words<K: Sink>(text: &mut TextBuffer, sink: &mut K, kind: BreachKind)
-    ensures { Adds K.held K.faults sink.old sink.new text.old text.new (definition.breach_words kind) }
+/// That a terminal starts so many bit times later.
+fn put_late<K: Sink>(text: &mut TextBuffer, sink: &mut K, n: u64)
+    ensures { Adds K.held K.faults sink.old sink.new text.old text.new (definition.missing_words (Some n)) }
+{
+    text.put(sink, b" starts ");
+    put_counted(text, sink, n, b"bit time");
+    text.put(sink, b" later");
+}
+
+/// What a terminal does that doesn't start where it should.
+fn put_missing<K: Sink>(text: &mut TextBuffer, sink: &mut K, next: Option<u64>)
+    ensures { Adds K.held K.faults sink.old sink.new text.old text.new (definition.missing_words next) }
+{
+    match next {
+        None => text.put(sink, b" should start and doesn't"),
+        Some(n) => put_late(text, sink, n),
+    }
+}
+
+/// What a terminal does that breaches at a moment of a list.
+fn put_breach_words<K: Sink>(
+    text: &mut TextBuffer,
+    sink: &mut K,
+    list: &[Transmission],
+    moment: u64,
+    terminal: u8,
+    kind: BreachKind,
+)
+    ensures { Adds K.held K.faults sink.old sink.new text.old text.new (definition.breach_words list.now moment terminal kind) }
 {
     match kind {
         BreachKind::Stranger => text.put(sink, b" starts and is no sender"),
         BreachKind::Unheld => text.put(sink, b" starts and has no message left"),
         BreachKind::Early => text.put(sink, b" starts before its timers allow it"),
         BreachKind::Misfit => text.put(sink, b" sends what its lines don't allow"),
-        BreachKind::Missing => text.put(sink, b" should start and doesn't"),
+        BreachKind::Missing => put_missing(text, sink, later(list, moment, terminal)),
     }
 }
 
 /// That nothing is wrong.
 fn put_lawful<K: Sink>(text: &mut TextBuffer, sink: &mut K, collided: u64)
-    ensures { Adds K.held K.faults sink.old sink.new text.old text.new (definition.answer_heading (Lawful collided)) }
+    ensures { Adds K.held K.faults sink.old sink.new text.old text.new (definition.lawful_heading collided) }
 {
     text.put(sink, b"LAWFUL, ");
     put_counted(text, sink, collided, b"transmission");
     text.put(sink, b" collided");
 }
 
-/// The first breach.
+/// The first breach of a list.
 fn put_breach<K: Sink>(
     text: &mut TextBuffer,
     sink: &mut K,
+    list: &[Transmission],
     moment: u64,
     terminal: u8,
     kind: BreachKind,
 )
-    ensures { Adds K.held K.faults sink.old sink.new text.old text.new (definition.answer_heading (Breach moment terminal kind)) }
+    ensures { Adds K.held K.faults sink.old sink.new text.old text.new (definition.answer_heading list.now (Breach moment terminal kind)) }
 {
     text.put(sink, b"BREACH at ");
-    text.put_number(sink, moment);
+    put_parted(text, sink, moment);
     text.put(sink, b" (");
-    put_microseconds(text, sink, u128::from(moment));
+    put_parted_microseconds(text, sink, moment);
     put_microseconds_unit(text, sink);
     text.put(sink, b"): terminal ");
     text.put_number(sink, terminal);
-    put_breach_words(text, sink, kind);
+    put_breach_words(text, sink, list, moment, terminal, kind);
 }
 
-/// Puts what an audit found.
-fn put_answer_heading<K: Sink>(text: &mut TextBuffer, sink: &mut K, answer: &AuditAnswer)
-    ensures { Adds K.held K.faults sink.old sink.new text.old text.new (definition.answer_heading answer.now) }
+/// Puts what an audit found in a list.
+fn put_answer_heading<K: Sink>(
+    text: &mut TextBuffer,
+    sink: &mut K,
+    list: &[Transmission],
+    answer: &AuditAnswer,
+)
+    ensures { Adds K.held K.faults sink.old sink.new text.old text.new (definition.answer_heading list.now answer.now) }
 {
     match *answer {
         AuditAnswer::Lawful { collided } => put_lawful(text, sink, collided),
@@ -179,13 +213,13 @@ fn put_answer_heading<K: Sink>(text: &mut TextBuffer, sink: &mut K, answer: &Aud
             moment,
             terminal,
             kind,
-        } => put_breach(text, sink, moment, terminal, kind),
+        } => put_breach(text, sink, list, moment, terminal, kind),
     }
 }
 
 /// Puts how many faults there are.
 fn put_faults<K: Sink>(text: &mut TextBuffer, sink: &mut K, faults: u128)
-    ensures { Adds K.held K.faults sink.old sink.new text.old text.new (counted faults (codes "fault")) }
+    ensures { Adds K.held K.faults sink.old sink.new text.old text.new (plainly_counted faults (codes "fault")) }
 {
     text.put_number(sink, faults);
     if faults == 1 {
@@ -209,12 +243,17 @@ fn put_findings<K: Sink>(
     put_faults(text, sink, fault_sum(judgements));
 }
 
-/// Puts what is told of a trace.
-pub(crate) fn put_told_heading<K: Sink>(text: &mut TextBuffer, sink: &mut K, told: &Told)
-    ensures { Adds K.held K.faults sink.old sink.new text.old text.new (definition.told_heading told.now) }
+/// Puts what is told of a trace, whose list this is.
+pub(crate) fn put_told_heading<K: Sink>(
+    text: &mut TextBuffer,
+    sink: &mut K,
+    told: &Told,
+    list: &[Transmission],
+)
+    ensures { Adds K.held K.faults sink.old sink.new text.old text.new (definition.told_heading list.now told.now) }
 {
     match told {
-        Told::Audit(answer) => put_answer_heading(text, sink, answer),
+        Told::Audit(answer) => put_answer_heading(text, sink, list, answer),
         Told::Findings { bounds, judgements } => put_findings(text, sink, *bounds, judgements),
     }
 }

@@ -1,4 +1,5 @@
 //! Laws of the definitions, each the contract of a function that does nothing.
+ghost use Rattle.bus_shapes.specs.LaterLaws.{LaterIsNext, NoneIsLater};
 ghost use Rattle.bus_shapes.specs.Laws.{MarksAreExact, PlacesLieWithin, PlacesRise, SentsAreTold};
 
 /// Places of moments: they don't fall as moments rise, and lie between the edges of the scale.
@@ -10,6 +11,13 @@ pub fn places_keep_order()
 /// The number at each mark of an axis is exact: the mark is at so many of the units that the axis counts.
 pub fn marks_are_exact()
     ensures { MarksAreExact }
+{}
+
+/// Where a heading says that a terminal starts so many bit times later than it should, it starts then and not between; and where it says
+/// that it doesn't start, it doesn't from there on.
+pub fn late_starts_are_next()
+    ensures later { LaterIsNext }
+    ensures none { NoneIsLater }
 {}
 
 /// All that [`Sents`](crate::Sents) tell of a list is told of entries of it: each has the terminal, the moments and the mark of one.

@@ -7,8 +7,8 @@
 //! - [`laws`] has what follows of the definitions of places, marks and what is told of a list, [`measures`] where words stand.
 //!
 //! All numbers are whole; a unit is a tenth of a pixel. The definitions are in `specs/`: `Classes`, `Shapes` (boxes and words), `Scales`
-//! (places of moments), `Axes`, `Sayings` (the words), `Sending` (what is told of a list), `Headings` and `Frames`. No call takes
-//! memory.
+//! (places of moments), `Axes`, `Numbers` (how numbers are written), `Sayings` (the words), `Sending` (what is told of a list), `Later` (late
+//! starts), `Headings` and `Frames`. No call takes memory.
 #![tactic(auto)]
 
 mod area;
@@ -17,8 +17,10 @@ mod class;
 mod counts;
 mod frame;
 mod heading;
+mod later;
 pub mod laws;
 pub mod measures;
+mod number;
 mod scale;
 mod sent;
 mod sents;
@@ -30,6 +32,7 @@ pub use axis::{Axis, Unit, put_axis};
 pub use class::{Class, digits_class};
 pub use counts::Counts;
 pub use frame::{put_counted, put_frame, put_tail};
+pub use number::{put_load_share, put_parted, put_parted_microseconds};
 pub use scale::Scale;
 pub use sent::{Sent, put_garbled, put_sent};
 pub use sents::Sents;

@@ -14,11 +14,11 @@ returns g c =
     subst (λ (mode : Mode). Adds g.K.Sink.held g.K.Sink.faults c.put_plot.new.sink c.put_foot.new.sink c.put_plot.new.text c.put_foot.new.text
     (foot_text c.args.scale.now c.lane_top-bottom.result c.args.left_out mode c.args.trace.now)) c.mode-mode.ensures.value c.put_foot.ensures in
     subst (λ (bottom : ℕ). Adds g.K.Sink.held g.K.Sink.faults c.args.sink.now c.put_tail.new.sink c.args.text.now c.put_tail.new.text
-    (frame_text (bottom + 1060) c.args.verdict.now c.args.told.now c.args.table.now (counts_of c.args.scale.now c.args.trace.now)
+    (frame_text (bottom + 1060) c.args.verdict.now c.args.told.now c.args.table.now c.args.trace.now.list (counts_of c.args.scale.now c.args.trace.now)
     ++ plot_text c.args.scale.now bottom c.args.lanes.now c.args.told.now c.args.table.now c.args.trace.now ++ foot_text c.args.scale.now bottom c.args.left_out c.args.table.now.mode c.args.trace.now ++ tail_text))
     c.lane_top-bottom.ensures.value
     (subst (λ (counts : Counts). Adds g.K.Sink.held g.K.Sink.faults c.args.sink.now c.put_tail.new.sink c.args.text.now c.put_tail.new.text
-    (frame_text (c.lane_top-bottom.result + 1060) c.args.verdict.now c.args.told.now c.args.table.now counts
+    (frame_text (c.lane_top-bottom.result + 1060) c.args.verdict.now c.args.told.now c.args.table.now c.args.trace.now.list counts
     ++ plot_text c.args.scale.now c.lane_top-bottom.result c.args.lanes.now c.args.told.now c.args.table.now c.args.trace.now
     ++ foot_text c.args.scale.now c.lane_top-bottom.result c.args.left_out c.args.table.now.mode c.args.trace.now ++ tail_text)) c.counts-counts.ensures
     (c.put_frame.ensures ▸ c.put_plot.ensures ▸ foot ▸ c.put_tail.ensures))

@@ -3,4 +3,4 @@ use Rattle.bus_shapes.proofs.frame.put_counted.Goals as goal
 
 pub returns : goal.returns
 returns g c =
-    c.put_number.ensures ▸ c.put_byte.ensures ▸ c.put.ensures ▸ c.put_ending.ensures
+    c.put_parted.ensures ▸ c.put_byte.ensures ▸ c.put.ensures ▸ c.put_ending.ensures

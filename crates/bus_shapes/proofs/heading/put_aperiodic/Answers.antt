@@ -3,7 +3,5 @@ use Rattle.bus_shapes.proofs.heading.put_aperiodic.Goals as goal
 
 pub returns : goal.returns
 returns g c =
-    let one = rw c.from.ensures at c.put_microseconds.ensures in
-    let other = rw c.from-2.ensures at c.put_microseconds-2.ensures in
-    c.put.ensures ▸ c.put_number.ensures ▸ c.put-2.ensures ▸ c.put_number-2.ensures ▸ c.put-3.ensures ▸ one
-    ▸ c.put-4.ensures ▸ other ▸ c.put_microseconds_unit.ensures ▸ c.put-5.ensures
+    c.put.ensures ▸ c.put_parted.ensures ▸ c.put-2.ensures ▸ c.put_parted-2.ensures ▸ c.put-3.ensures ▸ c.put_parted_microseconds.ensures
+    ▸ c.put-4.ensures ▸ c.put_parted_microseconds-2.ensures ▸ c.put_microseconds_unit.ensures ▸ c.put-5.ensures

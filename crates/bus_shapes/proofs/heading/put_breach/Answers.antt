@@ -3,6 +3,4 @@ use Rattle.bus_shapes.proofs.heading.put_breach.Goals as goal
 
 pub returns : goal.returns
 returns g c =
-    let one = rw c.from.ensures at c.put_microseconds.ensures in
-    c.put.ensures ▸ c.put_number.ensures ▸ c.put-2.ensures ▸ one ▸ c.put_microseconds_unit.ensures ▸ c.put-3.ensures
-    ▸ c.put_number-2.ensures ▸ c.put_breach_words.ensures
+    c.put.ensures ▸ c.put_parted.ensures ▸ c.put-2.ensures ▸ c.put_parted_microseconds.ensures ▸ c.put_microseconds_unit.ensures ▸ c.put-3.ensures ▸ c.put_number.ensures ▸ c.put_breach_words.ensures

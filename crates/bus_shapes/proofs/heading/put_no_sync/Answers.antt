@@ -3,4 +3,4 @@ use Rattle.bus_shapes.proofs.heading.put_no_sync.Goals as goal
 
 pub returns : goal.returns
 returns g c =
-    c.put.ensures ▸ c.put_number.ensures ▸ c.put-2.ensures ▸ c.put_number-2.ensures ▸ c.put-3.ensures ▸ c.put_number-3.ensures
+    c.put.ensures ▸ c.put_number.ensures ▸ c.put-2.ensures ▸ c.put_parted.ensures ▸ c.put-3.ensures ▸ c.put_parted-2.ensures

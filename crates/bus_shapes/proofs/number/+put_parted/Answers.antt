@@ -2,7 +2,7 @@ use Rattle.std.proofs.Common.{List, ℕ, arith, sym, subst}
 use Rattle.bus_outer.specs.Texts.{Adds}
 use Rattle.bus_outer.proofs.TextLaws.{◌▸◌}
 use Rattle.bus_shapes.proofs.PartedLemmas.{parted_more, parted_small}
-use Rattle.bus_shapes.proofs.axis.+put_parted.Goals as goal
+use Rattle.bus_shapes.proofs.number.+put_parted.Goals as goal
 
 pub returns-then-number-lt1000 : goal.returns-then-number-lt1000
 returns-then-number-lt1000 g t c =
