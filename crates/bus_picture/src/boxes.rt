@@ -7,7 +7,7 @@ ghost use Rattle.bus_picture.specs.Rows as definition;
 ghost use Rattle.bus_picture.specs.inside.Working as working;
 ghost use Rattle.bus_picture.specs.inside.Working.{IsLast, IsPile, held};
 
-use crate::measures::{BOX_BELOW, BOX_HEIGHT};
+use crate::measures::{BOX_BELOW, BOX_HEIGHT, GARBLED_OVERHANG, MESSAGE_OVERHANG};
 use crate::pile::{Pile, is_narrow, joins, pile_height, put_pile_words};
 use crate::places::meets;
 use crate::row::Row;
@@ -34,10 +34,14 @@ fn box_class(scale: &Scale, row: &Row, pile: &Pile) -> Class
     requires pile { IsPile pile.now }
     ensures { result ≡ definition.box_class scale.now row.now pile.now }
 {
-    if row.garbled {
-        return Class::Garbled;
-    }
     let narrow = is_narrow(scale, &pile.first);
+    if row.garbled {
+        return if narrow {
+            Class::GarbledNarrow
+        } else {
+            Class::Garbled
+        };
+    }
     match row.terminal {
         None => Class::Span,
         Some(_) => if narrow {
@@ -48,11 +52,45 @@ fn box_class(scale: &Scale, row: &Row, pile: &Pile) -> Class
     }
 }
 
+/// How far the stroke of a box of a row reaches beyond its edges.
+fn overhang(row: &Row, narrow: bool) -> u64
+    ensures value { result ≡ definition.overhang row.now narrow }
+    ensures few { result ≤ 7 }
+{
+    if narrow {
+        return 0;
+    }
+    if row.garbled {
+        return GARBLED_OVERHANG;
+    }
+    match row.terminal {
+        None => 0,
+        Some(_) => MESSAGE_OVERHANG,
+    }
+}
+
+/// An area, so much less at each edge.
+fn inset(n: u64, area: Area) -> Area
+    requires few { n ≤ 7 }
+    requires left { area.left < 2 ^ 22 }
+    requires top { area.top < 2 ^ 41 }
+    ensures { result ≡ definition.inset n area }
+{
+    Area {
+        left: area.left + n,
+        top: area.top + n,
+        width: area.width.saturating_sub(2 * n),
+        height: area.height.saturating_sub(2 * n),
+    }
+}
+
 /// What a box has of the scale: its left edge and its width, from its upper edge on.
 fn stretch(scale: &Scale, pile: &Pile, top: u64, height: u64) -> Area
     requires scale { IsScale scale.now }
     requires pile { IsPile pile.now }
-    ensures { result ≡ definition.stretch scale.now pile.now top height }
+    ensures value { result ≡ definition.stretch scale.now pile.now top height }
+    ensures left { result.left < 2 ^ 22 }
+    ensures top { result.top ≡ top }
 {
     Area {
         left: scale.place(pile.first.moment),
@@ -142,12 +180,14 @@ fn put_pile<K: Sink>(
         (definition.pile_text scale.now takers.now row.now list.now pile.now) }
 {
     let height = pile_height(scale, pile);
-    let area = stretch(
+    let whole = stretch(
         scale,
         pile,
         row.top + BOX_BELOW + (BOX_HEIGHT - height),
         height,
     );
+    let narrow = is_narrow(scale, &pile.first);
+    let area = inset(overhang(row, narrow), whole);
     begin_titled(text, sink, box_class(scale, row, pile), area);
     put_pile_words(text, sink, scale, pile);
     end_titled(text, sink);

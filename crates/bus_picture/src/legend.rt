@@ -4,6 +4,7 @@ ghost use Rattle.bus_outer.specs.Texts.{Adds};
 ghost use Rattle.bus_table.specs.declared.mode.Mode.TheVariants.{Periodic};
 ghost use Rattle.bus_picture.specs.Legends as definition;
 
+use crate::heights::put_shares;
 use crate::measures::{LINE_HEIGHT, OFFSET_HEIGHT, OFFSET_WIDTH};
 use bus_outer::{Sink, TextBuffer};
 use bus_shapes::{Area, Class, put_box, put_words};
@@ -16,7 +17,7 @@ const LEGEND_ROW: u64 = 260;
 const LEGEND_WORDS: u64 = 120;
 
 /// The height of a sample of a box.
-const SAMPLE_HEIGHT: u64 = 180;
+pub(crate) const SAMPLE_HEIGHT: u64 = 180;
 
 /// How far below the upper edge of a sample the box in it begins.
 const INNER_BELOW: u64 = 30;
@@ -97,7 +98,7 @@ const SAMPLE_TICK_BELOW: u64 = 67;
 const OFFSET_WORDS: u64 = 6480;
 
 /// A box of the legend.
-fn put_legend_box<K: Sink>(
+pub(crate) fn put_legend_box<K: Sink>(
     text: &mut TextBuffer,
     sink: &mut K,
     class: Class,
@@ -157,7 +158,7 @@ fn put_line<K: Sink>(text: &mut TextBuffer, sink: &mut K, class: Class, left: u6
 }
 
 /// The words of a sample.
-fn put_note<K: Sink>(text: &mut TextBuffer, sink: &mut K, left: u64, top: u64, words: &[u8])
+pub(crate) fn put_note<K: Sink>(text: &mut TextBuffer, sink: &mut K, left: u64, top: u64, words: &[u8])
     requires { top < 200000 }
     ensures { Adds K.held K.faults sink.old sink.new text.old text.new (definition.sample_words left top words.now) }
 {
@@ -272,27 +273,30 @@ fn put_boxes<K: Sink>(text: &mut TextBuffer, sink: &mut K, tinted: bool, top: u6
     put_tint(text, sink, tinted, top);
 }
 
-/// The row of what is drawn behind and between boxes.
-fn put_between<K: Sink>(text: &mut TextBuffer, sink: &mut K, mode: Mode, top: u64)
+/// The row of what is drawn behind and between boxes, and of how high these are.
+fn put_between<K: Sink>(text: &mut TextBuffer, sink: &mut K, mode: Mode, thin: bool, top: u64)
     requires { top < 200000 }
-    ensures { Adds K.held K.faults sink.old sink.new text.old text.new (definition.legend_between mode top) }
+    ensures { Adds K.held K.faults sink.old sink.new text.old text.new (definition.legend_between mode thin top) }
 {
     put_horizon(text, sink, top);
     put_lines(text, sink, top);
     put_offsets(text, sink, mode, top);
+    put_shares(text, sink, thin, top);
 }
 
-/// The legend of a picture of a table in this mode, with tints or without, with this upper edge.
+/// The legend of a picture of a table in this mode, with tints or without, with boxes of what takes less than a pixel or without, with
+/// this upper edge.
 pub(crate) fn put_legend<K: Sink>(
     text: &mut TextBuffer,
     sink: &mut K,
     mode: Mode,
     tinted: bool,
+    thin: bool,
     top: u64,
 )
     requires { top < 150000 }
-    ensures { Adds K.held K.faults sink.old sink.new text.old text.new (definition.legend_text mode tinted top) }
+    ensures { Adds K.held K.faults sink.old sink.new text.old text.new (definition.legend_text mode tinted thin top) }
 {
     put_boxes(text, sink, tinted, top);
-    put_between(text, sink, mode, top + LEGEND_ROW);
+    put_between(text, sink, mode, thin, top + LEGEND_ROW);
 }

@@ -14,6 +14,7 @@ mod counting;
 mod fault;
 mod faults;
 mod heard;
+mod heights;
 mod lanes;
 pub mod laws;
 mod legend;
