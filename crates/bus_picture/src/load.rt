@@ -101,8 +101,8 @@ fn last_end(list: &[Transmission]) -> u64
     ensures { result ≡ greatest_end list.now }
 {
     let mut end = 0;
-    for k in 0..list.len() {
-        end = list[k].end().max(end);
+    for x in list {
+        end = end.max(x.end());
     }
     end
 }

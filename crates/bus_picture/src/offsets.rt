@@ -87,7 +87,8 @@ fn put_ticks<K: Sink>(
         (definition.ticks_text scale.now top ti at held) }
 {
     let first = rounds_before(ti, at, scale.from);
-    let end = rounds_before(ti, at, scale.to).min(held);
+    let due = rounds_before(ti, at, scale.to);
+    let end = due.min(held);
     let count = end.saturating_sub(first);
     for k in 0..count {
         put_round(text, sink, scale, top, ti, at, first + k);
