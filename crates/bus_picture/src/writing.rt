@@ -194,6 +194,7 @@ fn put_picture<K: Sink>(
 {
     let bottom = lane_top(lanes.len());
     let counts = counts(scale, trace);
+    let list = trace.list();
     put_frame(
         text,
         sink,
@@ -201,7 +202,7 @@ fn put_picture<K: Sink>(
         verdict,
         told,
         table,
-        trace.list(),
+        list,
         &counts,
     );
     put_plot(
