@@ -21,6 +21,10 @@ plot_width = 8400
 abbrev pub names_right : ℕ
 names_right = 1380
 
+-- The line of the load up to the last end, between those of the audit and of the counts.
+abbrev pub tail_line : ℕ
+tail_line = 585
+
 -- Where the words on loads begin, so that `100.0 %` ends before the right edge of the picture.
 abbrev pub load_left : ℕ
 load_left = 9940

@@ -10,16 +10,16 @@ ghost use Rattle.bus_picture.specs.Lanes.{each_lane};
 ghost use Rattle.bus_picture.specs.Loads as definition;
 
 use crate::lanes::lane_top;
-use crate::measures::{BUS_LINE, LOAD_LEFT, PLOT_TOP, TERMINAL_LINE};
+use crate::measures::{BUS_LINE, LOAD_LEFT, PLOT_TOP, TAIL_LINE, TERMINAL_LINE};
 use crate::strings::string_of;
 use bus_dump::Lane;
 use bus_load::{Stretch, bits_within};
 use bus_outer::{Sink, TextBuffer};
 use bus_shapes::measures::{ANSWER_LINE, RIGHT_MARGIN};
-use bus_shapes::{Class, Scale, begin_words, end_words};
+use bus_shapes::{Class, Scale, begin_words, end_words, put_load_share};
 use bus_strings::laws::pulses_cover;
 use bus_strings::limits::{INNER_GAP, WORD_BITS};
-use bus_strings::{Transmission, pulse_count, put_share, tenths};
+use bus_strings::{Transmission, pulse_count};
 
 /// How many bit times a stretch has in common with the scale.
 fn common(scale: &Scale, begin: u64, end: u64) -> u64
@@ -84,7 +84,7 @@ fn put_load_words<K: Sink>(text: &mut TextBuffer, sink: &mut K, scale: &Scale, b
     requires few { bits < 2 ^ 111 }
     ensures { Adds K.held K.faults sink.old sink.new text.old text.new (definition.load_words scale.now bits) }
 {
-    put_share(text, sink, tenths(bits, scale.to - scale.from));
+    put_load_share(text, sink, bits, scale.to - scale.from);
 }
 
 /// For how many bit times of the scale the bus has carrier.
@@ -107,7 +107,7 @@ fn last_end(list: &[Transmission]) -> u64
     end
 }
 
-/// The share up to a moment, which is the last end.
+/// The load of the bus in the scale.
 fn put_share_to<K: Sink>(
     text: &mut TextBuffer,
     sink: &mut K,
@@ -123,7 +123,7 @@ fn put_share_to<K: Sink>(
     put_load_words(text, sink, scale, bits);
 }
 
-/// The share up to the last end, where the scale goes on behind it.
+/// That up to the last end, where the scale goes on behind it.
 fn put_tail<K: Sink>(
     text: &mut TextBuffer,
     sink: &mut K,
@@ -133,7 +133,7 @@ fn put_tail<K: Sink>(
 )
     requires scale { IsScale scale.now }
     requires carrier { IsCarrierOf carrier.now list.now }
-    ensures { Adds K.held K.faults sink.old sink.new text.old text.new (definition.tail_words scale.now list.now) }
+    ensures { Adds K.held K.faults sink.old sink.new text.old text.new (definition.tail_heading scale.now list.now) }
 {
     let end = last_end(list);
     if scale.from < end && end < scale.to {
@@ -143,9 +143,10 @@ fn put_tail<K: Sink>(
             left: scale.left,
             width: scale.width,
         };
-        text.put(sink, b", ");
+        begin_words(text, sink, Class::Detail, RIGHT_MARGIN, TAIL_LINE);
         put_share_to(text, sink, &front, list, carrier);
-        text.put(sink, b" to last end");
+        text.put(sink, b" up to the last end");
+        end_words(text, sink);
     }
 }
 
@@ -164,7 +165,6 @@ fn put_load_heading<K: Sink>(
     begin_words(text, sink, Class::Counts, RIGHT_MARGIN, ANSWER_LINE);
     text.put(sink, b"load ");
     put_share_to(text, sink, scale, list, carrier);
-    put_tail(text, sink, scale, list, carrier);
     end_words(text, sink);
 }
 
@@ -228,6 +228,7 @@ fn put_bus_load<K: Sink>(
     ensures { Adds K.held K.faults sink.old sink.new text.old text.new (definition.bus_load scale.now list.now) }
 {
     put_load_heading(text, sink, scale, list, carrier);
+    put_tail(text, sink, scale, list, carrier);
     let bits = bus_bits(scale, list, carrier);
     put_load(text, sink, scale, PLOT_TOP + BUS_LINE, bits);
 }

@@ -15,6 +15,9 @@ pub(crate) const PLOT_WIDTH: u64 = 8400;
 /// Where the words beside a lane end.
 pub(crate) const NAMES_RIGHT: u64 = 1380;
 
+/// The line of the load up to the last end, between those of the audit and of the counts.
+pub(crate) const TAIL_LINE: u64 = 585;
+
 /// Where the words on loads begin, so that `100.0 %` ends before the right edge of the picture.
 pub(crate) const LOAD_LEFT: u64 = 9940;
 
