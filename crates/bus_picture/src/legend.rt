@@ -158,7 +158,13 @@ fn put_line<K: Sink>(text: &mut TextBuffer, sink: &mut K, class: Class, left: u6
 }
 
 /// The words of a sample.
-pub(crate) fn put_note<K: Sink>(text: &mut TextBuffer, sink: &mut K, left: u64, top: u64, words: &[u8])
+pub(crate) fn put_note<K: Sink>(
+    text: &mut TextBuffer,
+    sink: &mut K,
+    left: u64,
+    top: u64,
+    words: &[u8],
+)
     requires { top < 200000 }
     ensures { Adds K.held K.faults sink.old sink.new text.old text.new (definition.sample_words left top words.now) }
 {
