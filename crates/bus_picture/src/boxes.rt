@@ -7,11 +7,12 @@ ghost use Rattle.bus_picture.specs.Rows as definition;
 ghost use Rattle.bus_picture.specs.inside.Working as working;
 ghost use Rattle.bus_picture.specs.inside.Working.{IsLast, IsPile, held};
 
-use crate::measures::{BOX_BELOW, BOX_HEIGHT, GARBLED_OVERHANG, MESSAGE_OVERHANG};
+use crate::measures::{BOX_BELOW, BOX_HEIGHT};
 use crate::pile::{Pile, is_narrow, joins, pile_height, put_pile_words};
 use crate::places::meets;
 use crate::row::Row;
 use crate::strings::put_strings;
+use crate::strokes::{inset, overhang};
 use crate::takers::Takers;
 use bus_outer::{Sink, TextBuffer};
 use bus_shapes::{Area, Class, Scale, Sent, Sents, begin_titled, end_titled};
@@ -49,38 +50,6 @@ fn box_class(scale: &Scale, row: &Row, pile: &Pile) -> Class
         } else {
             Class::Message
         },
-    }
-}
-
-/// How far the stroke of a box of a row reaches beyond its edges.
-fn overhang(row: &Row, narrow: bool) -> u64
-    ensures value { result ≡ definition.overhang row.now narrow }
-    ensures few { result ≤ 7 }
-{
-    if narrow {
-        return 0;
-    }
-    if row.garbled {
-        return GARBLED_OVERHANG;
-    }
-    match row.terminal {
-        None => 0,
-        Some(_) => MESSAGE_OVERHANG,
-    }
-}
-
-/// An area, so much less at each edge.
-fn inset(n: u64, area: Area) -> Area
-    requires few { n ≤ 7 }
-    requires left { area.left < 2 ^ 22 }
-    requires top { area.top < 2 ^ 41 }
-    ensures { result ≡ definition.inset n area }
-{
-    Area {
-        left: area.left + n,
-        top: area.top + n,
-        width: area.width.saturating_sub(2 * n),
-        height: area.height.saturating_sub(2 * n),
     }
 }
 

@@ -8,6 +8,7 @@
 //! and the whole text). What all pictures share is in `bus_shapes`. No call takes memory.
 #![tactic(auto)]
 
+mod between;
 mod boxes;
 mod choosing;
 mod counting;
@@ -31,6 +32,7 @@ mod row;
 mod rows;
 mod starts;
 mod strings;
+mod strokes;
 mod takers;
 mod timers;
 mod tints;
