@@ -6,7 +6,7 @@ use Rattle.bus_dump.specs.declared.lane.Lane.{Lane}
 use Rattle.bus_shapes.specs.declared.scale.Scale.{Scale}
 use Rattle.bus_strings.specs.Members.{In}
 use Rattle.bus_picture.specs.Boxes.{Pile, is_thin, pile_height, share_height}
-use Rattle.bus_picture.specs.Laws.{BoxesLieInRows, BreachesHideNoBox}
+use Rattle.bus_picture.specs.Laws.{BoxesLieInRows, BreachesHideNoBox, IntervalWordsHideNoBox}
 use Rattle.bus_picture.specs.Measures.{plot_top, row_height}
 use Rattle.bus_picture.specs.Rows.{Row}
 use Rattle.bus_picture.specs.TimeLines.{each_lane, lane_rows, rows_of}
@@ -69,3 +69,13 @@ breaches_hide_no_box scale lanes row pile left width i =
       },
       omega arith,
     )
+
+pub interval_words_hide_no_box : IntervalWordsHideNoBox
+interval_words_hide_no_box scale lanes row pile i =
+    let p : IsPlace row = placed lanes row i in
+    let top : row.top ≡ 1170 + 320 * p.number = p.top in
+    let high : pile_height scale pile ≤ 180 = height_within scale pile in
+    elim (cases_lt p.number 1) [
+      | inl before ↦ inl (omega arith)
+      | inr later ↦ inr (omega arith)
+    ]

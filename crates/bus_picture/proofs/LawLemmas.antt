@@ -10,7 +10,7 @@ use Rattle.bus_strings.proofs.MemberLaws.{from_filter, in_append_left, in_append
 use Rattle.bus_strings.specs.Members.{In}
 use Rattle.bus_strings.specs.Messages.{Entry}
 use Rattle.bus_strings.specs.Transmissions.{IsByMoment, garbled}
-use Rattle.bus_shapes.specs.declared.class.Class.TheVariants.{Garbled}
+use Rattle.bus_shapes.specs.Classes.{is_hatched}
 use Rattle.bus_shapes.specs.declared.scale.Scale.{Scale}
 use Rattle.bus_shapes.specs.declared.sent.Sent.{Sent}
 use Rattle.bus_shapes.specs.Laws.{SentsAreTold}
@@ -19,7 +19,7 @@ use Rattle.bus_shapes.specs.SendingLaws.{IsToldOf}
 use Rattle.bus_shapes.specs.Measures.{pixel}
 use Rattle.bus_shapes.specs.Scales.{place}
 use Rattle.bus_picture.specs.Boxes.{Box, Pile, boxes, boxes_from, bucket, grown, is_close, is_narrow, is_thin, joins, members, one, pile_of}
-use Rattle.bus_picture.specs.Rows.{Row, box_class, is_of, plain_class, shown, shows}
+use Rattle.bus_picture.specs.Rows.{Row, box_class, garbled_class, is_of, plain_class, shown, shows}
 use Rattle.bus_picture.specs.Strings.{meets}
 use Rattle.bus_picture.specs.Laws.{AreClose, BoxesCoverNoQuiet, BoxesHoldRows, BoxesHoldTheirs, HatchedAreGarbled, HoldsIts}
 
@@ -65,13 +65,18 @@ as_row scale row x h =
     same x.garbled row.garbled
     (and_parts (is_of row x) (beq x.garbled row.garbled) (and_parts (is_of row x && beq x.garbled row.garbled) (meets scale x.moment x.end) h).0).1
 
-plain : (terminal : Option ℕ) (narrow : Bool) → plain_class terminal narrow ≡ Garbled → ⊥
+plain : (terminal : Option ℕ) (narrow : Bool) → is_hatched (plain_class terminal narrow) ≡ true → ⊥
 plain None narrow h = cc
 plain (Some n) true h = cc
 plain (Some n) false h = cc
 
-hatched_by : (g : Bool) (terminal : Option ℕ) (narrow : Bool) → (cond g Garbled (plain_class terminal narrow) ≡ Garbled) ↔ (g ≡ true)
-hatched_by true terminal narrow = (λ h. refl, λ h. refl)
+hurt : (narrow : Bool) → is_hatched (garbled_class narrow) ≡ true
+hurt true = refl
+hurt false = refl
+
+hatched_by : (g : Bool) (terminal : Option ℕ) (narrow : Bool)
+    → (is_hatched (cond g (garbled_class narrow) (plain_class terminal narrow)) ≡ true) ↔ (g ≡ true)
+hatched_by true terminal narrow = (λ h. refl, λ h. hurt narrow)
 hatched_by false terminal narrow = (λ h. absurd (plain terminal narrow h), λ h. absurd (true≢false (sym h)))
 
 pub hatched_are_garbled : SentsAreTold → HatchedAreGarbled
@@ -80,7 +85,7 @@ hatched_are_garbled told scale row list box x i j =
     let kept = from_filter (shows scale row) (sents list) x all in
     let t : IsToldOf list x = told list x kept.0 in
     let mark : row.garbled ≡ garbled list x.at = as_row scale row x kept.1 ∙ ap (λ (s : Sent). s.garbled) t.told in
-    (t, subst (λ b. (box_class scale row (pile_of box) ≡ Garbled) ↔ (b ≡ true)) mark (hatched_by row.garbled row.terminal (is_narrow scale (pile_of box).first)))
+    (t, subst (λ b. (is_hatched (box_class scale row (pile_of box)) ≡ true) ↔ (b ≡ true)) mark (hatched_by row.garbled row.terminal (is_narrow scale (pile_of box).first)))
 
 -- ---- from the first to the last
 abbrev pub IsBehind : ℕ → Sent → Type 0

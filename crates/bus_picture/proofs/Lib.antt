@@ -8,6 +8,8 @@ pub mod CountLemmas
 pub mod AreaLemmas
 pub mod PaceLemmas
 pub mod LoadLemmas
+pub mod TailLemmas
+pub mod StrokeLemmas
 pub mod HeardLemmas
 pub mod GapLemmas
 pub mod TintLemmas

@@ -15,8 +15,9 @@ use Rattle.bus_picture.specs.OffsetLaws.{OffsetsAreMarked}
 use Rattle.bus_picture.specs.Offsets.{offset_moment, offset_moments, rounds_before, rounds_in, tick_text}
 
 -- The same of a sender that is due at a moment.
-record IsOffsetOf (scale : Scale) (due ti : ℕ) (t : ℕ) : Type 0 where
+record IsOffsetOf (scale : Scale) (due ti held : ℕ) (t : ℕ) : Type 0 where
   round : ℕ
+  left : round < held
   at : t ≡ due + round * ti
   from : scale.from ≤ t
   to : t < scale.to
@@ -53,15 +54,16 @@ rounds_in_list f a (suc n) k low high =
       | inr most ↦ inl (ap f (let e : k ≡ a = omega arith in e))
     ]
 
-offsets_in : (scale : Scale) (ti at t : ℕ) → 0 < ti → In t (offset_moments scale ti at) → IsOffsetOf scale at ti t
-offsets_in scale ti at t some i =
-    let r = in_rounds (offset_moment ti at) (rounds_before ti at scale.from) (rounds_in scale ti at) t i in
+offsets_in : (scale : Scale) (ti at held t : ℕ) → 0 < ti → In t (offset_moments scale ti at held) → IsOffsetOf scale at ti held t
+offsets_in scale ti at held t some i =
+    let r = in_rounds (offset_moment ti at) (rounds_before ti at scale.from) (rounds_in scale ti at held) t i in
     let is : t ≡ at + r.0 * ti = r.3 in
     let low : rounds_before ti at scale.from ≤ r.0 = r.1 in
-    let high : r.0 < rounds_before ti at scale.from + rounds_in scale ti at = r.2 in
+    let high : r.0 < rounds_before ti at scale.from + rounds_in scale ti at held = r.2 in
     let before : at + r.0 * ti < scale.to = round_below ti at scale.to r.0 some (omega arith) in
     record {
       round = r.0;
+      left = omega arith;
       at = is;
       from = elim (cases_lt t scale.from) [
         | inr more ↦ more
@@ -70,8 +72,9 @@ offsets_in scale ti at t some i =
       to = omega arith;
     }
 
-offsets_all : (scale : Scale) (ti at t : ℕ) → 0 < ti → IsOffsetOf scale at ti t → In t (offset_moments scale ti at)
-offsets_all scale ti at t some o =
+offsets_all : (scale : Scale) (ti at held t : ℕ) → 0 < ti → IsOffsetOf scale at ti held t → In t (offset_moments scale ti at held)
+offsets_all scale ti at held t some o =
+    let few : o.round < held = o.left in
     let is : t ≡ at + o.round * ti = o.at in
     let from : scale.from ≤ t = o.from in
     let to : t < scale.to = o.to in
@@ -80,23 +83,25 @@ offsets_all scale ti at t some o =
       | inl less ↦ let k : at + o.round * ti < scale.from = round_below ti at scale.from o.round some less in absurd (omega arith)
     ] in
     let high : o.round < rounds_before ti at scale.to = below_round ti at scale.to o.round some (omega arith) in
-    subst (λ u. In u (offset_moments scale ti at)) (sym is)
-    (rounds_in_list (offset_moment ti at) (rounds_before ti at scale.from) (rounds_in scale ti at) o.round low (omega arith))
+    subst (λ u. In u (offset_moments scale ti at held)) (sym is)
+    (rounds_in_list (offset_moment ti at) (rounds_before ti at scale.from) (rounds_in scale ti at held) o.round low (omega arith))
 
 pub offsets_are_marked : OffsetsAreMarked
-offsets_are_marked scale table sender t valid there periodic =
+offsets_are_marked scale table held sender t valid there periodic =
     let sound : IsSound (timing_of table sender) = timings_are_sound table sender valid there in
     let least : 1000 ≤ table.ti = sound.ti_least in
     let some : 0 < table.ti = omega arith in
     let due : due_of table sender ≡ sender.at = ap (λ m. due_for m sender) periodic in (
-      λ i. let o = offsets_in scale table.ti sender.at t some i in record {
+      λ i. let o = offsets_in scale table.ti sender.at held t some i in record {
         round = o.round;
+        left = o.left;
         at = o.at ∙ ap (λ d. d + o.round * table.ti) (sym due);
         from = o.from;
         to = o.to;
       },
-      λ o. offsets_all scale table.ti sender.at t some (record {
+      λ o. offsets_all scale table.ti sender.at held t some (record {
         round = o.round;
+        left = o.left;
         at = o.at ∙ ap (λ d. d + o.round * table.ti) due;
         from = o.from;
         to = o.to;

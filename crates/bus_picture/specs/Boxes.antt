@@ -1,7 +1,8 @@
 -- The boxes of a row of transmissions. Neighbours that take less than a pixel each share a box, where less than a pixel lies between them
 -- and they begin in the same six pixels: so no box covers quiet between two of them that takes a pixel.
-use Rattle.std.specs.Prelude.{ℕ, ◌+◌, ◌-◌, ◌*◌, ◌/◌, max, min, Bool, ◌&&◌, nat_lt, nat_eq, List, [], ◌∷◌, ◌++◌, codes, decimal, fold}
+use Rattle.std.specs.Prelude.{ℕ, ◌+◌, ◌-◌, ◌*◌, ◌/◌, max, min, Bool, ◌&&◌, nat_le, nat_lt, nat_eq, List, [], ◌∷◌, ◌++◌, codes, decimal, fold}
 use Rattle.std.specs.Prelude.{if◌then◌else◌}
+use Rattle.std.specs.List.{count_by, range_with_len}
 use Rattle.bus_shapes.specs.declared.sent.Sent.{Sent}
 use Rattle.bus_shapes.specs.Sayings.{garbled_words, sent_words}
 use Rattle.bus_shapes.specs.declared.scale.Scale.{Scale}
@@ -102,9 +103,18 @@ members_words pile = if nat_eq pile.count 1 then sent_words pile.first else many
 abbrev pub pile_words : Scale → Pile → List ℕ
 pile_words scale pile = members_words pile ++ share_words scale pile
 
--- The height of a box of transmissions that take less than a pixel: the share of what is drawn that is busy.
+-- Whether the square of a height is no more than the share of the square of the whole height that is busy.
+abbrev pub is_below_root : ℕ → ℕ → ℕ → Bool
+is_below_root busy bits height = nat_le (height * height * bits) (box_height * box_height * busy)
+
+-- The greatest of these heights, since all below it are so: the square root of that share, in units.
+abbrev pub root_height : ℕ → ℕ → ℕ
+root_height busy bits = count_by (λ k. is_below_root busy bits (k + 1)) (range_with_len 0 box_height)
+
+-- The height of a box of transmissions that take less than a pixel: the square root of the share of what is drawn that is busy, by which
+-- small shares can be told apart.
 abbrev pub share_height : Scale → Pile → ℕ
-share_height scale pile = min (max (box_height * pile.busy / drawn_bits scale pile) least_height) box_height
+share_height scale pile = min (max (root_height pile.busy (drawn_bits scale pile)) least_height) box_height
 
 -- The height of a box.
 abbrev pub pile_height : Scale → Pile → ℕ

@@ -1,6 +1,7 @@
 -- What follows of the definitions. The contracts of `laws` say that each of these holds.
 use Rattle.std.specs.Prelude.{◌≡◌, ◌↔◌, ℕ, ◌+◌, ◌-◌, ◌*◌, ◌<◌, ◌≤◌, ◌⊎◌, false, true, IsTrue, List, [], ◌∷◌, length, filter, ⊤}
 use Rattle.std.specs.List.{AllByRecursion, count_by, flat_map, sum_by}
+use Rattle.bus_strings.specs.Marking.{greatest_end}
 use Rattle.bus_strings.specs.Members.{In}
 use Rattle.bus_strings.specs.Messages.{Entry}
 use Rattle.bus_strings.specs.Transmissions.{IsByMoment, end_of, garbled}
@@ -10,22 +11,23 @@ use Rattle.bus_trace.specs.Traces.{Recording, IsTrace}
 use Rattle.bus_dump.specs.declared.lane.Lane.{Lane}
 use Rattle.bus_dump.specs.Lanes.{lanes}
 use Rattle.bus_shapes.specs.declared.area.Area.{Area}
-use Rattle.bus_shapes.specs.declared.class.Class.TheVariants.{Garbled}
 use Rattle.bus_shapes.specs.declared.scale.Scale.{Scale}
 use Rattle.bus_shapes.specs.declared.sent.Sent.{Sent}
 use Rattle.bus_shapes.specs.declared.told.Told.{Told}
+use Rattle.bus_shapes.specs.Classes.{is_hatched}
 use Rattle.bus_shapes.specs.Measures.{pixel}
-use Rattle.bus_shapes.specs.Scales.{place}
+use Rattle.bus_shapes.specs.Scales.{IsScale, place}
 use Rattle.bus_shapes.specs.Sending.{sents}
 use Rattle.bus_shapes.specs.SendingLaws.{IsToldOf}
-use Rattle.bus_picture.specs.Boxes.{Box, Pile, boxes, grown, members, one, pile_of}
-use Rattle.bus_picture.specs.Rows.{Row, box_area, box_class, shown, shows}
+use Rattle.bus_picture.specs.Boxes.{Box, Pile, boxes, grown, is_narrow, members, one, pile_of}
+use Rattle.bus_picture.specs.Rows.{Row, box_area, box_class, drawn_area, overhang, shown, shows}
 use Rattle.bus_picture.specs.Lanes.{is_named}
-use Rattle.bus_picture.specs.Loads.{bus_bits}
+use Rattle.bus_picture.specs.Loads.{bus_bits, goes_on, up_to}
 use Rattle.bus_picture.specs.Strings.{meets}
 use Rattle.bus_picture.specs.TimeLines.{bus_rows, counts_of, is_shown, lanes_in, rows_of, rows_of_lanes}
 use Rattle.bus_picture.specs.Marks.{head_dash, lower_dash, upper_dash}
-use Rattle.bus_picture.specs.Measures.{breach_line, plot_top, row_height, words_depth}
+use Rattle.bus_picture.specs.Lanes.{lane_top}
+use Rattle.bus_picture.specs.Measures.{breach_line, interval_depth, interval_line, interval_rise, plot_top, row_height, words_depth}
 
 -- ---- boxes
 -- The transmissions of the boxes of a row, one after the other, are those that the row shows, in order: so each of these is in exactly one
@@ -38,7 +40,7 @@ BoxesHoldRows =
 abbrev pub HatchedAreGarbled : Type 0
 HatchedAreGarbled =
     (scale : Scale) (row : Row) (list : List Entry) (box : Box) (x : Sent) → In box (boxes scale (shown scale row list))
-    → In x (members box) → IsToldOf list x × ((box_class scale row (pile_of box) ≡ Garbled) ↔ (garbled list x.at ≡ true))
+    → In x (members box) → IsToldOf list x × ((is_hatched (box_class scale row (pile_of box)) ≡ true) ↔ (garbled list x.at ≡ true))
 
 -- A box goes from the begin of its first transmission, before which none of it begins, to the end of one of them, behind which none of it
 -- ends; and it counts them.
@@ -65,6 +67,16 @@ abbrev pub BoxesCoverNoQuiet : Type 0
 BoxesCoverNoQuiet =
     (scale : Scale) (row : Row) (list : List Entry) (box : Box) → In box (boxes scale (shown scale row list))
     → AreClose scale (one box.first) box.others
+
+-- What an area covers with a stroke that reaches so far beyond each of its edges.
+abbrev pub with_stroke : ℕ → Area → Area
+with_stroke n area = record { left = area.left - n; top = area.top - n; width = area.width + 2 * n; height = area.height + 2 * n }
+
+-- A box covers with its stroke what it has of the scale, hatched or not, and nothing beyond: so no stroke covers quiet.
+abbrev pub StrokesLieWithin : Type 0
+StrokesLieWithin =
+    (scale : Scale) (row : Row) (box : Box) → IsScale scale
+    → with_stroke (overhang row (is_narrow scale (pile_of box).first)) (drawn_area scale row (pile_of box)) ≡ box_area scale row (pile_of box)
 
 -- ---- rows
 -- All rows that are drawn after one of what is garbled lie below it. Boxes of the same row and timers may lie over a box.
@@ -100,6 +112,13 @@ abbrev pub BreachesHideNoBox : Type 0
 BreachesHideNoBox =
     (scale : Scale) (lanes : List Lane) (row : Row) (pile : Pile) (left width : ℕ) → In row (rows_of lanes)
     → HidesNone (box_area scale row pile) left width × (breach_line + words_depth ≤ (box_area scale row pile).top)
+
+-- The words of transmit intervals, which stand in the first lane alone, lie above or below each box.
+abbrev pub IntervalWordsHideNoBox : Type 0
+IntervalWordsHideNoBox =
+    (scale : Scale) (lanes : List Lane) (row : Row) (pile : Pile) → In row (rows_of lanes)
+    → ((box_area scale row pile).top + (box_area scale row pile).height ≤ lane_top 0 + interval_line - interval_rise)
+    ⊎ (lane_top 0 + interval_line + interval_depth ≤ (box_area scale row pile).top)
 
 -- How many of these rows show a transmission.
 abbrev pub rows_with : Scale → List Row → Sent → ℕ
@@ -150,3 +169,9 @@ LanesAreCounted =
 -- Of a scale no more bit times have carrier than it has, so that the load of the bus doesn't pass 100 %.
 abbrev pub LoadIsAShare : Type 0
 LoadIsAShare = (scale : Scale) (list : List Entry) → bus_bits scale list ≤ scale.to - scale.from
+
+-- Behind the last end of a list nothing is counted: the load up to there has the bit times of that of the scale.
+abbrev pub TailsAreQuiet : Type 0
+TailsAreQuiet =
+    (scale : Scale) (list : List Entry) → goes_on scale (greatest_end list) ≡ true
+    → bus_bits (up_to scale (greatest_end list)) list ≡ bus_bits scale list

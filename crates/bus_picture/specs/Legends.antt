@@ -1,5 +1,5 @@
 -- The legend of a time line, and its measures in units of a tenth of a pixel.
-use Rattle.std.specs.Prelude.{ℕ, ◌+◌, Bool, List, [], ◌++◌, codes, if◌then◌else◌}
+use Rattle.std.specs.Prelude.{ℕ, ◌+◌, ◌-◌, Bool, List, [], ◌++◌, codes, if◌then◌else◌}
 use Rattle.bus_shapes.specs.declared.class.Class.{Class}
 use Rattle.bus_shapes.specs.declared.class.Class.TheVariants.{Gap, Garbled, Interval, Mark, Noise, Overlap, Small, Unobserved}
 use Rattle.bus_shapes.specs.declared.class.Class.TheVariants as classes
@@ -125,6 +125,34 @@ sample_tick_below = 67
 abbrev pub offset_words : ℕ
 offset_words = 6480
 
+-- The width of a box of the legend of heights.
+abbrev pub share_width : ℕ
+share_width = 60
+
+-- Where the one begins that is busy all the time.
+abbrev pub whole_left : ℕ
+whole_left = 7700
+
+-- Where the one begins that is busy for a quarter of it.
+abbrev pub quarter_left : ℕ
+quarter_left = 7800
+
+-- Its height.
+abbrev pub quarter_height : ℕ
+quarter_height = 90
+
+-- Where the one begins that is busy for a sixteenth of it.
+abbrev pub sixteenth_left : ℕ
+sixteenth_left = 7900
+
+-- Its height.
+abbrev pub sixteenth_height : ℕ
+sixteenth_height = 45
+
+-- Where the words on heights begin.
+abbrev pub shares_words : ℕ
+shares_words = 8080
+
 -- ---- the legend
 -- A box of the legend, of a class.
 abbrev pub legend_box : Class → ℕ → ℕ → ℕ → ℕ → List ℕ
@@ -183,14 +211,27 @@ legend_offsets Periodic top =
     legend_box Mark tick_left (top + sample_tick_below) offset_width offset_height
     ++ sample_words offset_words top (codes "offset: AT")
 
+-- A box of the legend of heights, whose lower edge is that of a sample.
+abbrev pub share_box : ℕ → ℕ → ℕ → List ℕ
+share_box left top height = legend_box classes.Wordstring left (top + (sample_height - height)) share_width height
+
+-- What it says of the heights of boxes of what takes less than a pixel, where there is one: their square is the share that is busy.
+abbrev pub legend_shares : Bool → ℕ → List ℕ
+legend_shares thin top =
+    if thin
+    then share_box whole_left top sample_height ++ share_box quarter_left top quarter_height
+    ++ share_box sixteenth_left top sixteenth_height ++ sample_words shares_words top (codes "low boxes: busy 1/1, 1/4, 1/16")
+    else []
+
 -- Its first row: what boxes mean, of a picture with tints or without.
 abbrev pub legend_boxes : Bool → ℕ → List ℕ
 legend_boxes tinted top = legend_message top ++ legend_garbled top ++ legend_tint tinted top
 
--- Its second row: what is drawn behind and between boxes.
-abbrev pub legend_between : Mode → ℕ → List ℕ
-legend_between mode top = legend_horizon top ++ legend_timers top ++ legend_offsets mode top
+-- Its second row: what is drawn behind and between boxes, and how high these are.
+abbrev pub legend_between : Mode → Bool → ℕ → List ℕ
+legend_between mode thin top = legend_horizon top ++ legend_timers top ++ legend_offsets mode top ++ legend_shares thin top
 
--- The legend of a picture of a table in this mode, whose first row has this upper edge.
-abbrev pub legend_text : Mode → Bool → ℕ → List ℕ
-legend_text mode tinted top = legend_boxes tinted top ++ legend_between mode (top + legend_row)
+-- The legend of a picture of a table in this mode, with tints or without, with boxes of what takes less than a pixel or without, whose
+-- first row has this upper edge.
+abbrev pub legend_text : Mode → Bool → Bool → ℕ → List ℕ
+legend_text mode tinted thin top = legend_boxes tinted top ++ legend_between mode thin (top + legend_row)

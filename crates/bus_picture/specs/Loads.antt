@@ -1,20 +1,21 @@
 -- The loads of a window, as shares of its bit times: of a terminal, for how many of them its pulses last, and of the bus, how many of them
 -- have carrier. The quiet between two wordstrings of a message is no load, and what two send at once counts once for the bus. What a
 -- terminal sends twice at once, which no bus does, counts twice for the terminal.
-use Rattle.std.specs.Prelude.{ℕ, ◌+◌, ◌-◌, max, min, List, ◌++◌, codes, filter, length}
+use Rattle.std.specs.Prelude.{ℕ, ◌+◌, ◌-◌, max, min, Bool, ◌&&◌, nat_lt, List, [], ◌++◌, codes, filter, length, if◌then◌else◌}
 use Rattle.std.specs.List.{range_with_len, sum_by}
 use Rattle.bus_load.specs.Loads.{carrier_bits}
+use Rattle.bus_strings.specs.Marking.{greatest_end}
 use Rattle.bus_strings.specs.Messages.{Entry}
 use Rattle.bus_strings.specs.Pulses.{pulse_length, pulse_start}
-use Rattle.bus_strings.specs.Shares.{share_text, tenths}
 use Rattle.bus_dump.specs.declared.lane.Lane.{Lane}
-use Rattle.bus_shapes.specs.declared.class.Class.TheVariants.{Counts, Small}
+use Rattle.bus_shapes.specs.declared.class.Class.TheVariants.{Counts, Detail, Small}
 use Rattle.bus_shapes.specs.declared.scale.Scale.{Scale}
 use Rattle.bus_shapes.specs.Measures.{answer_line, right_margin}
+use Rattle.bus_shapes.specs.Numbers as numbers
 use Rattle.bus_shapes.specs.Sending.{is_of}
 use Rattle.bus_shapes.specs.Shapes.{words_text}
 use Rattle.bus_picture.specs.Lanes.{each_lane, lane_top}
-use Rattle.bus_picture.specs.Measures.{bus_line, load_left, plot_top, terminal_line}
+use Rattle.bus_picture.specs.Measures.{bus_line, load_left, plot_top, tail_line, terminal_line}
 
 -- ---- how many bit times
 -- How many bit times a stretch has in common with the scale.
@@ -41,11 +42,29 @@ bus_bits scale list = carrier_bits list scale.from scale.to
 -- ---- in words
 -- So many bit times of the scale, as a share of all of them.
 abbrev pub load_words : Scale → ℕ → List ℕ
-load_words scale bits = share_text (tenths bits (scale.to - scale.from))
+load_words scale bits = numbers.load_words bits (scale.to - scale.from)
 
--- This load in the heading, at the right end of the line of the audit.
-abbrev pub load_heading : Scale → ℕ → List ℕ
-load_heading scale bits = words_text Counts right_margin answer_line (codes "load " ++ load_words scale bits)
+-- ---- a silent tail
+-- Whether a scale goes on behind a moment that it has.
+abbrev pub goes_on : Scale → ℕ → Bool
+goes_on scale end = nat_lt scale.from end && nat_lt end scale.to
+
+-- The same scale up to a moment.
+abbrev pub up_to : Scale → ℕ → Scale
+up_to scale end = record { from = scale.from; to = end; left = scale.left; width = scale.width }
+
+-- ---- where they stand
+-- The load of the bus in the heading, at the right end of the line of the audit.
+abbrev pub load_heading : Scale → List Entry → List ℕ
+load_heading scale list = words_text Counts right_margin answer_line (codes "load " ++ load_words scale (bus_bits scale list))
+
+-- Below it that up to the last end of a list, where the scale goes on behind that, with nothing on the bus.
+abbrev pub tail_heading : Scale → List Entry → List ℕ
+tail_heading scale list =
+    if goes_on scale (greatest_end list)
+    then words_text Detail right_margin tail_line
+    (load_words (up_to scale (greatest_end list)) (bus_bits (up_to scale (greatest_end list)) list) ++ codes " up to the last end")
+    else []
 
 -- This load right of a row, on this line.
 abbrev pub load_text : Scale → ℕ → ℕ → List ℕ
@@ -56,9 +75,9 @@ abbrev pub lane_load : Scale → List Entry → ℕ → Lane → List ℕ
 lane_load scale list k lane = load_text scale (lane_top k + terminal_line) (terminal_bits scale lane.terminal list)
 
 -- The load of the bus, in the heading and right of its row.
-abbrev pub bus_load : Scale → ℕ → List ℕ
-bus_load scale bits = load_heading scale bits ++ load_text scale (plot_top + bus_line) bits
+abbrev pub bus_load : Scale → List Entry → List ℕ
+bus_load scale list = load_heading scale list ++ tail_heading scale list ++ load_text scale (plot_top + bus_line) (bus_bits scale list)
 
 -- The load of the bus and that of each lane.
 abbrev pub loads_text : Scale → List Lane → List Entry → List ℕ
-loads_text scale lanes list = bus_load scale (bus_bits scale list) ++ each_lane (lane_load scale list) 0 lanes
+loads_text scale lanes list = bus_load scale list ++ each_lane (lane_load scale list) 0 lanes

@@ -1,6 +1,6 @@
 -- The mark of the first breach: a dashed line over the full height, whose dashes lie between the boxes of the rows, and words above the
 -- plot.
-use Rattle.std.specs.Prelude.{ℕ, ◌+◌, ◌-◌, max, min, Bool, ◌==◌, nat_lt, List, [], ◌∷◌, ◌++◌, if◌then◌else◌}
+use Rattle.std.specs.Prelude.{ℕ, ◌+◌, ◌-◌, min, Bool, ◌==◌, nat_lt, List, [], ◌∷◌, ◌++◌, if◌then◌else◌}
 use Rattle.bus_audit.specs.Lines.{answer_words}
 use Rattle.bus_audit.specs.declared.answer.AuditAnswer.{AuditAnswer}
 use Rattle.bus_audit.specs.declared.answer.AuditAnswer.TheVariants.{Lawful, Breach}
@@ -34,9 +34,9 @@ lower_dash left width top = record {
 abbrev pub head_dash : ℕ → Area
 head_dash left = record { left = left; top = head_top; width = line_width; height = head_height }
 
--- The middle of the words, so far from both edges that they have room.
+-- The middle of the words: at the line, and so far from the right edge that they have room. Left of the plot they have.
 abbrev pub words_middle : ℕ → ℕ
-words_middle left = min (max left words_least) words_most
+words_middle left = min left words_most
 
 -- ---- the line
 -- The dashes of a row.

@@ -21,6 +21,10 @@ plot_width = 8400
 abbrev pub names_right : ℕ
 names_right = 1380
 
+-- The line of the load up to the last end, between those of the audit and of the counts.
+abbrev pub tail_line : ℕ
+tail_line = 585
+
 -- Where the words on loads begin, so that `100.0 %` ends before the right edge of the picture.
 abbrev pub load_left : ℕ
 load_left = 9940
@@ -77,9 +81,17 @@ box_below = 60
 abbrev pub box_height : ℕ
 box_height = 180
 
--- The least height of a box.
+-- The least height of a box: a pixel.
 abbrev pub least_height : ℕ
-least_height = 20
+least_height = 10
+
+-- How far the stroke of a message reaches beyond its edges: half of its width.
+abbrev pub message_overhang : ℕ
+message_overhang = 5
+
+-- How far that of a garbled transmission does.
+abbrev pub garbled_overhang : ℕ
+garbled_overhang = 7
 
 -- How far below the upper edge of its row the box of a wordstring begins.
 abbrev pub string_below : ℕ
@@ -153,9 +165,17 @@ gap_line = 118
 abbrev pub interval_below : ℕ
 interval_below = 275
 
--- How far below that edge the words of a transmit interval stand.
+-- How far below that edge the words of a transmit interval stand: between the boxes of the row and those of the row above.
 abbrev pub interval_line : ℕ
-interval_line = 266
+interval_line = 44
+
+-- How far these words, capitals and digits, reach above their line, at most.
+abbrev pub interval_rise : ℕ
+interval_rise = 76
+
+-- How far they reach below it, at most.
+abbrev pub interval_depth : ℕ
+interval_depth = 4
 
 -- How far below that edge the stroke at the end of a transmit interval begins.
 abbrev pub stroke_below : ℕ
@@ -177,7 +197,7 @@ offset_height = 46
 abbrev pub offset_width : ℕ
 offset_width = 20
 
--- The least middle of the words of a breach, so that they have room.
+-- The middle of the words of a breach before the window.
 abbrev pub words_least : ℕ
 words_least = 2500
 

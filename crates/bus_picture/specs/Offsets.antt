@@ -1,5 +1,6 @@
--- Where a sender should start in periodic mode: at its offset in each transmit interval from the settled start on, as the table says.
-use Rattle.std.specs.Prelude.{ℕ, ◌+◌, ◌-◌, ◌*◌, ◌/◌, List, [], map}
+-- Where a sender should start in periodic mode: at its offset in each transmit interval from the settled start on, as the table says, as
+-- often as it held a message.
+use Rattle.std.specs.Prelude.{ℕ, ◌+◌, ◌-◌, ◌*◌, ◌/◌, min, List, [], map}
 use Rattle.std.specs.List.{flat_map, range_with_len}
 use Rattle.bus_shapes.specs.declared.area.Area.{Area}
 use Rattle.bus_shapes.specs.declared.class.Class.TheVariants.{Mark}
@@ -18,14 +19,14 @@ offset_moment ti at k = at + k * ti
 abbrev pub rounds_before : ℕ → ℕ → ℕ → ℕ
 rounds_before ti at t = (t - at + (ti - 1)) / ti
 
--- How many of them lie in a scale.
-abbrev pub rounds_in : Scale → ℕ → ℕ → ℕ
-rounds_in scale ti at = rounds_before ti at scale.to - rounds_before ti at scale.from
+-- How many of them lie in a scale, where the sender held so many messages.
+abbrev pub rounds_in : Scale → ℕ → ℕ → ℕ → ℕ
+rounds_in scale ti at held = min (rounds_before ti at scale.to) held - rounds_before ti at scale.from
 
 -- Those that lie in a scale, in order.
-abbrev pub offset_moments : Scale → ℕ → ℕ → List ℕ
-offset_moments scale ti at =
-    map (offset_moment ti at) (range_with_len (rounds_before ti at scale.from) (rounds_in scale ti at))
+abbrev pub offset_moments : Scale → ℕ → ℕ → ℕ → List ℕ
+offset_moments scale ti at held =
+    map (offset_moment ti at) (range_with_len (rounds_before ti at scale.from) (rounds_in scale ti at held))
 
 -- The tick of a moment, above the boxes of a row with this upper edge.
 abbrev pub tick_area : Scale → ℕ → ℕ → Area
@@ -36,10 +37,10 @@ abbrev pub tick_text : Scale → ℕ → ℕ → List ℕ
 tick_text scale top t = box_text Mark (tick_area scale top t)
 
 -- The ticks of these starts, in a row with this upper edge.
-abbrev pub ticks_text : Scale → ℕ → ℕ → ℕ → List ℕ
-ticks_text scale top ti at = flat_map (tick_text scale top) (offset_moments scale ti at)
+abbrev pub ticks_text : Scale → ℕ → ℕ → ℕ → ℕ → List ℕ
+ticks_text scale top ti at held = flat_map (tick_text scale top) (offset_moments scale ti at held)
 
 -- The same where the table is periodic; in aperiodic mode a sender has no offset.
-abbrev pub offsets_text : Mode → Scale → ℕ → ℕ → ℕ → List ℕ
-offsets_text Aperiodic scale top ti at = []
-offsets_text Periodic scale top ti at = ticks_text scale top ti at
+abbrev pub offsets_text : Mode → Scale → ℕ → ℕ → ℕ → ℕ → List ℕ
+offsets_text Aperiodic scale top ti at held = []
+offsets_text Periodic scale top ti at held = ticks_text scale top ti at held

@@ -1,6 +1,6 @@
 -- The rows of a time line. The bus has all transmissions, and a lane those of its terminal: each has a row of those that are garbled, and a
 -- row of the others.
-use Rattle.std.specs.Prelude.{ℕ, ◌+◌, ◌-◌, Bool, true, not, ◌&&◌, ◌==◌, nat_eq, List, [], ◌++◌, filter, slice_get, Option, Some, None}
+use Rattle.std.specs.Prelude.{ℕ, ◌+◌, ◌-◌, ◌*◌, Bool, true, not, ◌&&◌, ◌==◌, nat_eq, List, [], ◌++◌, filter, slice_get, Option, Some, None}
 use Rattle.std.specs.Prelude.{if◌then◌else◌}
 use Rattle.std.specs.Bool.{beq}
 use Rattle.std.specs.List.{flat_map}
@@ -8,7 +8,7 @@ use Rattle.std.specs.Option.{option_map_or}
 use Rattle.bus_strings.specs.Messages.{Entry}
 use Rattle.bus_table.specs.Tables.{Table}
 use Rattle.bus_shapes.specs.declared.class.Class.{Class}
-use Rattle.bus_shapes.specs.declared.class.Class.TheVariants.{Garbled, Message, Span, Wordstring}
+use Rattle.bus_shapes.specs.declared.class.Class.TheVariants.{Garbled, GarbledNarrow, Message, Span, Wordstring}
 use Rattle.bus_shapes.specs.declared.sent.Sent.{Sent}
 use Rattle.bus_shapes.specs.declared.scale.Scale.{Scale}
 use Rattle.bus_shapes.specs.Scales.{extent, place}
@@ -18,7 +18,7 @@ use Rattle.bus_shapes.specs.Shapes.{titled_text}
 use Rattle.bus_picture.specs.Boxes.{Pile, boxes, is_narrow, pile_height, pile_of, pile_words}
 use Rattle.bus_picture.specs.Strings.{meets, strings_text}
 pub use Rattle.bus_picture.specs.declared.row.Row.{Row}
-use Rattle.bus_picture.specs.Measures.{box_below, box_height}
+use Rattle.bus_picture.specs.Measures.{box_below, box_height, garbled_overhang, message_overhang}
 
 -- Whether a transmission is of the terminal of the row, or any where it is that of the bus.
 abbrev pub is_of : Row → Sent → Bool
@@ -41,9 +41,23 @@ abbrev pub plain_class : Option ℕ → Bool → Class
 plain_class None narrow = Span
 plain_class (Some terminal) narrow = message_class narrow
 
+-- How a garbled one looks: hatched, without a stroke where it takes less than six pixels.
+abbrev pub garbled_class : Bool → Class
+garbled_class narrow = if narrow then GarbledNarrow else Garbled
+
 -- How a box of a row looks: hatched where the row is garbled.
 abbrev pub box_class : Scale → Row → Pile → Class
-box_class scale row pile = if row.garbled then Garbled else plain_class row.terminal (is_narrow scale pile.first)
+box_class scale row pile =
+    if row.garbled then garbled_class (is_narrow scale pile.first) else plain_class row.terminal (is_narrow scale pile.first)
+
+-- How far the stroke of a box that isn't garbled reaches beyond its edges: of the bus it has none.
+abbrev pub plain_overhang : Option ℕ → ℕ
+plain_overhang None = 0
+plain_overhang (Some terminal) = message_overhang
+
+-- How far that of a box of a row does, which has none where it takes less than six pixels.
+abbrev pub overhang : Row → Bool → ℕ
+overhang row narrow = if narrow then 0 else (if row.garbled then garbled_overhang else plain_overhang row.terminal)
 
 -- What a box has of the scale: its left edge and its width, from its upper edge on.
 abbrev pub stretch : Scale → Pile → ℕ → ℕ → Area
@@ -64,14 +78,22 @@ abbrev pub more_text : Option ℕ → Scale → Table → Row → List Entry →
 more_text None scale table row list pile = []
 more_text (Some terminal) scale table row list pile = inner_text scale table row list pile
 
--- The area of a box, whose lower edge is that of all boxes of its row.
+-- An area, so much less at each edge.
+abbrev pub inset : ℕ → Area → Area
+inset n area = record { left = area.left + n; top = area.top + n; width = area.width - 2 * n; height = area.height - 2 * n }
+
+-- The area of a box with its stroke, whose lower edge is that of all boxes of its row.
 abbrev pub box_area : Scale → Row → Pile → Area
 box_area scale row pile = stretch scale pile (row.top + box_below + (box_height - pile_height scale pile)) (pile_height scale pile)
+
+-- The area of a box without its stroke, so that this lies within the former.
+abbrev pub drawn_area : Scale → Row → Pile → Area
+drawn_area scale row pile = inset (overhang row (is_narrow scale pile.first)) (box_area scale row pile)
 
 -- A box, with what is drawn in it.
 abbrev pub pile_text : Scale → Table → Row → List Entry → Pile → List ℕ
 pile_text scale table row list pile =
-    titled_text (box_class scale row pile) (box_area scale row pile) (pile_words scale pile)
+    titled_text (box_class scale row pile) (drawn_area scale row pile) (pile_words scale pile)
     ++ more_text row.terminal scale table row list pile
 
 -- A row: its boxes.

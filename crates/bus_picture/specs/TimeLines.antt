@@ -1,7 +1,7 @@
 -- The text of a time line.
 use Rattle.std.specs.Prelude.{ℕ, ◌+◌, ◌-◌, ◌%◌, Bool, true, false, ◌&&◌, nat_eq, nat_lt, List, [], ◌∷◌}
 use Rattle.std.specs.Prelude.{◌++◌, length, codes, decimal, Option, Some, None, if◌then◌else◌}
-use Rattle.std.specs.List.{count_by}
+use Rattle.std.specs.List.{count_by, list_any}
 use Rattle.std.specs.Option.{option_map_or}
 use Rattle.bus_regime.specs.declared.table_verdict.TableVerdict.{TableVerdict}
 use Rattle.bus_table.specs.Fits.{sender_of}
@@ -10,6 +10,7 @@ use Rattle.bus_table.specs.declared.mode.Mode.{Mode}
 use Rattle.bus_table.specs.declared.mode.Mode.TheVariants.{Aperiodic, Periodic}
 use Rattle.bus_trace.specs.Traces.{Recording}
 use Rattle.bus_strings.specs.Messages.{Entry}
+use Rattle.bus_audit.specs.Breaches.{held}
 use Rattle.bus_dump.specs.declared.lane.Lane.{Lane}
 use Rattle.bus_dump.specs.Lanes.{lanes}
 use Rattle.bus_shapes.specs.declared.axis.Axis.{Axis}
@@ -28,6 +29,7 @@ use Rattle.bus_shapes.specs.Sending.{sents}
 use Rattle.bus_shapes.specs.Shapes.{box_text, titled_text, words_text}
 use Rattle.bus_trace.specs.Windows.{Window}
 pub use Rattle.bus_picture.specs.Lanes.{drawn_lanes, each_lane, lane_top}
+use Rattle.bus_picture.specs.Boxes.{is_thin}
 use Rattle.bus_picture.specs.Legends.{legend_text}
 use Rattle.bus_picture.specs.Loads.{loads_text}
 use Rattle.bus_picture.specs.Faults.{told_text}
@@ -131,7 +133,7 @@ rows_of lanes = bus_rows ++ rows_of_lanes lanes
 abbrev pub lane_sender : Scale → Table → Recording → ℕ → Lane → Sender → List ℕ
 lane_sender scale table trace k lane sender =
     sender_timers scale trace.list (track_of table trace.horizon k lane.terminal sender.tg)
-    ++ offsets_text table.mode scale (lane_top k) table.ti sender.at
+    ++ offsets_text table.mode scale (lane_top k) table.ti sender.at (held trace.holds lane.terminal)
 
 -- The same of lane k, where its terminal is a sender.
 abbrev pub lane_timers : Scale → Table → Recording → ℕ → Lane → List ℕ
@@ -180,10 +182,18 @@ plot_text scale bottom lanes told table trace =
     ++ tints_text scale bottom trace.list ++ rows_text scale table trace.list (rows_of lanes) ++ timers_text scale lanes table trace
     ++ told_text scale table.ti lanes told trace.list
 
+-- Whether a transmission is shown and takes less than a pixel.
+abbrev pub is_shown_thin : Scale → Sent → Bool
+is_shown_thin scale x = is_shown scale x && is_thin scale x
+
+-- Whether a list has one.
+abbrev pub has_thin : Scale → List Entry → Bool
+has_thin scale list = list_any (is_shown_thin scale) (sents list)
+
 -- What stands below the plot: how many lanes are left out, and the legend.
 abbrev pub foot_text : Scale → ℕ → ℕ → Mode → Recording → List ℕ
 foot_text scale bottom left_out mode trace =
-    left_out_text bottom left_out ++ legend_text mode (has_tints scale trace.list) (bottom + legend_below)
+    left_out_text bottom left_out ++ legend_text mode (has_tints scale trace.list) (has_thin scale trace.list) (bottom + legend_below)
 
 -- A picture with these lanes, and with so many left out.
 abbrev pub picture_text : Scale → List Lane → ℕ → TableVerdict → Told → Table → Recording → List ℕ

@@ -12,6 +12,7 @@ use crate::pile::{Pile, is_narrow, joins, pile_height, put_pile_words};
 use crate::places::meets;
 use crate::row::Row;
 use crate::strings::put_strings;
+use crate::strokes::{inset, overhang};
 use crate::takers::Takers;
 use bus_outer::{Sink, TextBuffer};
 use bus_shapes::{Area, Class, Scale, Sent, Sents, begin_titled, end_titled};
@@ -34,10 +35,14 @@ fn box_class(scale: &Scale, row: &Row, pile: &Pile) -> Class
     requires pile { IsPile pile.now }
     ensures { result ≡ definition.box_class scale.now row.now pile.now }
 {
-    if row.garbled {
-        return Class::Garbled;
-    }
     let narrow = is_narrow(scale, &pile.first);
+    if row.garbled {
+        return if narrow {
+            Class::GarbledNarrow
+        } else {
+            Class::Garbled
+        };
+    }
     match row.terminal {
         None => Class::Span,
         Some(_) => if narrow {
@@ -52,7 +57,9 @@ fn box_class(scale: &Scale, row: &Row, pile: &Pile) -> Class
 fn stretch(scale: &Scale, pile: &Pile, top: u64, height: u64) -> Area
     requires scale { IsScale scale.now }
     requires pile { IsPile pile.now }
-    ensures { result ≡ definition.stretch scale.now pile.now top height }
+    ensures value { result ≡ definition.stretch scale.now pile.now top height }
+    ensures left { result.left < 2 ^ 22 }
+    ensures top { result.top ≡ top }
 {
     Area {
         left: scale.place(pile.first.moment),
@@ -142,12 +149,14 @@ fn put_pile<K: Sink>(
         (definition.pile_text scale.now takers.now row.now list.now pile.now) }
 {
     let height = pile_height(scale, pile);
-    let area = stretch(
+    let whole = stretch(
         scale,
         pile,
         row.top + BOX_BELOW + (BOX_HEIGHT - height),
         height,
     );
+    let narrow = is_narrow(scale, &pile.first);
+    let area = inset(overhang(row, narrow), whole);
     begin_titled(text, sink, box_class(scale, row, pile), area);
     put_pile_words(text, sink, scale, pile);
     end_titled(text, sink);

@@ -4,7 +4,7 @@ ghost use Rattle.bus_picture.specs.GapLaws.{IntervalsAreAll, IntervalsAreTrue, L
 ghost use Rattle.bus_picture.specs.FaultLaws.{FaultsAreMarked, FaultsHaveLanes, NoneIsMarked};
 ghost use Rattle.bus_picture.specs.OffsetLaws.{OffsetsAreMarked};
 ghost use Rattle.bus_picture.specs.Laws.{BoxesCoverNoQuiet, BoxesHoldRows, BoxesHoldTheirs, BoxesLieInRows, BreachesHideNoBox};
-ghost use Rattle.bus_picture.specs.Laws.{BusIsCounted, EachIsOnTheBus, LoadIsAShare};
+ghost use Rattle.bus_picture.specs.Laws.{BusIsCounted, EachIsOnTheBus, IntervalWordsHideNoBox, LoadIsAShare, StrokesLieWithin, TailsAreQuiet};
 ghost use Rattle.bus_picture.specs.Laws.{EachIsInOneLane, GarbledAreUncovered, HatchedAreGarbled, LanesAreCounted, LeftOutAreSilent};
 ghost use Rattle.bus_picture.specs.TakingLaws.{NamedReceive, ReceivesStrings};
 ghost use Rattle.bus_picture.specs.TintLaws.{OverlapsAreTinted, TintsAreOverlaps};
@@ -30,6 +30,11 @@ pub fn boxes_cover_no_quiet()
     ensures { BoxesCoverNoQuiet }
 {}
 
+/// A box covers with its stroke what it has of the scale and of its row, hatched or not, and nothing beyond: so no stroke covers quiet.
+pub fn strokes_lie_within()
+    ensures { StrokesLieWithin }
+{}
+
 /// A box goes from the begin of its first transmission to the end of one of them, and all lie between.
 pub fn boxes_hold_theirs()
     ensures { BoxesHoldTheirs }
@@ -47,6 +52,11 @@ pub fn breaches_hide_no_box()
     ensures { BreachesHideNoBox }
 {}
 
+/// The words of transmit intervals hide no box.
+pub fn interval_words_hide_no_box()
+    ensures { IntervalWordsHideNoBox }
+{}
+
 /// Each transmission that meets the window is shown by exactly one row of the bus, and by exactly one of all lanes that are drawn: so it is
 /// in exactly one box of the bus, and in exactly one of its lane.
 pub fn each_is_in_one_row()
@@ -57,9 +67,11 @@ pub fn each_is_in_one_row()
     sents_are_told();
 }
 
-/// The load of the bus counts no more bit times than the window has.
+/// The load of the bus counts no more bit times than the window has; and behind the last end there is no carrier, so that the load up to
+/// there counts the same bit times.
 pub fn load_is_a_share()
-    ensures { LoadIsAShare }
+    ensures share { LoadIsAShare }
+    ensures tail { TailsAreQuiet }
 {}
 
 /// The counts above the plot are those of the boxes of the bus, and those of the boxes of all lanes that are drawn.
@@ -86,8 +98,8 @@ pub fn timers_are_true()
     sents_are_told();
 }
 
-/// In periodic mode the ticks of a sender whose timers are drawn are those of each moment of the window at which it should start, and of no
-/// other.
+/// In periodic mode the ticks of a sender whose timers are drawn are those of each moment of the window at which it should start, as often
+/// as it held a message, and of no other.
 pub fn offsets_are_marked()
     ensures { OffsetsAreMarked }
 {}

@@ -1,10 +1,9 @@
 //! The legend.
 ghost use Rattle.std.specs.Prelude.{◌<◌};
 ghost use Rattle.bus_outer.specs.Texts.{Adds};
-ghost use Rattle.bus_table.specs.declared.mode.Mode.TheVariants.{Periodic};
 ghost use Rattle.bus_picture.specs.Legends as definition;
 
-use crate::measures::{LINE_HEIGHT, OFFSET_HEIGHT, OFFSET_WIDTH};
+use crate::between::put_between;
 use bus_outer::{Sink, TextBuffer};
 use bus_shapes::{Area, Class, put_box, put_words};
 use bus_table::Mode;
@@ -16,16 +15,13 @@ const LEGEND_ROW: u64 = 260;
 const LEGEND_WORDS: u64 = 120;
 
 /// The height of a sample of a box.
-const SAMPLE_HEIGHT: u64 = 180;
+pub(crate) const SAMPLE_HEIGHT: u64 = 180;
 
 /// How far below the upper edge of a sample the box in it begins.
 const INNER_BELOW: u64 = 30;
 
 /// The height of the box in a sample.
 const INNER_HEIGHT: u64 = 120;
-
-/// How far below the upper edge of a sample a line lies.
-const LINE_BELOW: u64 = 83;
 
 /// Where the sample of a message begins.
 const MESSAGE_LEFT: u64 = 1500;
@@ -61,7 +57,7 @@ const NOISE_WIDTH: u64 = 420;
 const GARBLED_WORDS: u64 = 6980;
 
 /// The width of the samples behind these.
-const COLUMN_WIDTH: u64 = 300;
+pub(crate) const COLUMN_WIDTH: u64 = 300;
 
 /// Where the sample of a tint begins.
 const OVERLAP_LEFT: u64 = 7700;
@@ -69,35 +65,8 @@ const OVERLAP_LEFT: u64 = 7700;
 /// Where the words on it begin.
 const OVERLAP_WORDS: u64 = 8080;
 
-/// Where the sample of what lies behind the horizon begins.
-const UNOBSERVED_LEFT: u64 = 1500;
-
-/// Where the words on it begin.
-const UNOBSERVED_WORDS: u64 = 1880;
-
-/// Where the sample of a gap begins.
-const GAP_LEFT: u64 = 3200;
-
-/// Where the words on gaps begin.
-const GAP_WORDS: u64 = 3580;
-
-/// Where the sample of a transmit interval begins.
-const INTERVAL_LEFT: u64 = 4550;
-
-/// Where the words on transmit intervals begin.
-const INTERVAL_WORDS: u64 = 4930;
-
-/// Where the sample of the tick of an offset begins.
-const TICK_LEFT: u64 = 6400;
-
-/// How far below the upper edge of a sample it begins.
-const SAMPLE_TICK_BELOW: u64 = 67;
-
-/// Where the words on offsets begin.
-const OFFSET_WORDS: u64 = 6480;
-
 /// A box of the legend.
-fn put_legend_box<K: Sink>(
+pub(crate) fn put_legend_box<K: Sink>(
     text: &mut TextBuffer,
     sink: &mut K,
     class: Class,
@@ -118,7 +87,7 @@ fn put_legend_box<K: Sink>(
 }
 
 /// A sample of a box.
-fn put_sample<K: Sink>(
+pub(crate) fn put_sample<K: Sink>(
     text: &mut TextBuffer,
     sink: &mut K,
     class: Class,
@@ -147,17 +116,14 @@ fn put_inner<K: Sink>(
     put_legend_box(text, sink, class, left, below, width, INNER_HEIGHT);
 }
 
-/// A sample of a line.
-fn put_line<K: Sink>(text: &mut TextBuffer, sink: &mut K, class: Class, left: u64, top: u64)
-    requires { top < 200000 }
-    ensures { Adds K.held K.faults sink.old sink.new text.old text.new (definition.sample_line class left top) }
-{
-    let below = top + LINE_BELOW;
-    put_legend_box(text, sink, class, left, below, COLUMN_WIDTH, LINE_HEIGHT);
-}
-
 /// The words of a sample.
-fn put_note<K: Sink>(text: &mut TextBuffer, sink: &mut K, left: u64, top: u64, words: &[u8])
+pub(crate) fn put_note<K: Sink>(
+    text: &mut TextBuffer,
+    sink: &mut K,
+    left: u64,
+    top: u64,
+    words: &[u8],
+)
     requires { top < 200000 }
     ensures { Adds K.held K.faults sink.old sink.new text.old text.new (definition.sample_words left top words.now) }
 {
@@ -209,59 +175,6 @@ fn put_tint<K: Sink>(text: &mut TextBuffer, sink: &mut K, tinted: bool, top: u64
     }
 }
 
-/// What lies behind the horizon.
-fn put_horizon<K: Sink>(text: &mut TextBuffer, sink: &mut K, top: u64)
-    requires { top < 200000 }
-    ensures { Adds K.held K.faults sink.old sink.new text.old text.new (definition.legend_horizon top) }
-{
-    put_sample(
-        text,
-        sink,
-        Class::Unobserved,
-        UNOBSERVED_LEFT,
-        top,
-        COLUMN_WIDTH,
-    );
-    put_note(text, sink, UNOBSERVED_WORDS, top, b"behind the horizon");
-}
-
-/// The timers.
-fn put_lines<K: Sink>(text: &mut TextBuffer, sink: &mut K, top: u64)
-    requires { top < 200000 }
-    ensures { Adds K.held K.faults sink.old sink.new text.old text.new (definition.legend_timers top) }
-{
-    put_line(text, sink, Class::Gap, GAP_LEFT, top);
-    put_note(text, sink, GAP_WORDS, top, b"gap: SG, TG");
-    put_line(text, sink, Class::Interval, INTERVAL_LEFT, top);
-    put_note(text, sink, INTERVAL_WORDS, top, b"transmit interval: TI");
-}
-
-/// The tick of an offset.
-fn put_tick<K: Sink>(text: &mut TextBuffer, sink: &mut K, top: u64)
-    requires { top < 200000 }
-    ensures { Adds K.held K.faults sink.old sink.new text.old text.new (definition.legend_offsets Periodic top) }
-{
-    let area = Area {
-        left: TICK_LEFT,
-        top: top + SAMPLE_TICK_BELOW,
-        width: OFFSET_WIDTH,
-        height: OFFSET_HEIGHT,
-    };
-    put_box(text, sink, Class::Mark, area);
-    put_note(text, sink, OFFSET_WORDS, top, b"offset: AT");
-}
-
-/// The ticks of offsets, which there are in periodic mode.
-fn put_offsets<K: Sink>(text: &mut TextBuffer, sink: &mut K, mode: Mode, top: u64)
-    requires { top < 200000 }
-    ensures { Adds K.held K.faults sink.old sink.new text.old text.new (definition.legend_offsets mode top) }
-{
-    match mode {
-        Mode::Aperiodic => {}
-        Mode::Periodic => put_tick(text, sink, top),
-    }
-}
-
 /// The row of boxes.
 fn put_boxes<K: Sink>(text: &mut TextBuffer, sink: &mut K, tinted: bool, top: u64)
     requires { top < 200000 }
@@ -272,27 +185,19 @@ fn put_boxes<K: Sink>(text: &mut TextBuffer, sink: &mut K, tinted: bool, top: u6
     put_tint(text, sink, tinted, top);
 }
 
-/// The row of what is drawn behind and between boxes.
-fn put_between<K: Sink>(text: &mut TextBuffer, sink: &mut K, mode: Mode, top: u64)
-    requires { top < 200000 }
-    ensures { Adds K.held K.faults sink.old sink.new text.old text.new (definition.legend_between mode top) }
-{
-    put_horizon(text, sink, top);
-    put_lines(text, sink, top);
-    put_offsets(text, sink, mode, top);
-}
-
-/// The legend of a picture of a table in this mode, with tints or without, with this upper edge.
+/// The legend of a picture of a table in this mode, with tints or without, with boxes of what takes less than a pixel or without, with
+/// this upper edge.
 pub(crate) fn put_legend<K: Sink>(
     text: &mut TextBuffer,
     sink: &mut K,
     mode: Mode,
     tinted: bool,
+    thin: bool,
     top: u64,
 )
     requires { top < 150000 }
-    ensures { Adds K.held K.faults sink.old sink.new text.old text.new (definition.legend_text mode tinted top) }
+    ensures { Adds K.held K.faults sink.old sink.new text.old text.new (definition.legend_text mode tinted thin top) }
 {
     put_boxes(text, sink, tinted, top);
-    put_between(text, sink, mode, top + LEGEND_ROW);
+    put_between(text, sink, mode, thin, top + LEGEND_ROW);
 }

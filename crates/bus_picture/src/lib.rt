@@ -8,12 +8,14 @@
 //! and the whole text). What all pictures share is in `bus_shapes`. No call takes memory.
 #![tactic(auto)]
 
+mod between;
 mod boxes;
 mod choosing;
 mod counting;
 mod fault;
 mod faults;
 mod heard;
+mod heights;
 mod lanes;
 pub mod laws;
 mod legend;
@@ -30,6 +32,7 @@ mod row;
 mod rows;
 mod starts;
 mod strings;
+mod strokes;
 mod takers;
 mod timers;
 mod tints;

@@ -2,6 +2,7 @@
 ghost use Rattle.std.specs.Prelude.{◌≡◌, ◌<◌, ◌≤◌, ◌^◌, length};
 ghost use Rattle.bus_load.specs.Loads.{IsCarrierOf};
 ghost use Rattle.bus_outer.specs.Texts.{Adds};
+ghost use Rattle.bus_strings.specs.Marking.{greatest_end};
 ghost use Rattle.bus_strings.specs.Pulses.{pulse_length};
 ghost use Rattle.bus_shapes.specs.Scales.{IsScale};
 ghost use Rattle.bus_shapes.specs.Sending as sending;
@@ -9,16 +10,16 @@ ghost use Rattle.bus_picture.specs.Lanes.{each_lane};
 ghost use Rattle.bus_picture.specs.Loads as definition;
 
 use crate::lanes::lane_top;
-use crate::measures::{BUS_LINE, LOAD_LEFT, PLOT_TOP, TERMINAL_LINE};
+use crate::measures::{BUS_LINE, LOAD_LEFT, PLOT_TOP, TAIL_LINE, TERMINAL_LINE};
 use crate::strings::string_of;
 use bus_dump::Lane;
 use bus_load::{Stretch, bits_within};
 use bus_outer::{Sink, TextBuffer};
 use bus_shapes::measures::{ANSWER_LINE, RIGHT_MARGIN};
-use bus_shapes::{Class, Scale, begin_words, end_words};
+use bus_shapes::{Class, Scale, begin_words, end_words, put_load_share};
 use bus_strings::laws::pulses_cover;
 use bus_strings::limits::{INNER_GAP, WORD_BITS};
-use bus_strings::{Transmission, pulse_count, put_share, tenths};
+use bus_strings::{Transmission, pulse_count};
 
 /// How many bit times a stretch has in common with the scale.
 fn common(scale: &Scale, begin: u64, end: u64) -> u64
@@ -83,18 +84,87 @@ fn put_load_words<K: Sink>(text: &mut TextBuffer, sink: &mut K, scale: &Scale, b
     requires few { bits < 2 ^ 111 }
     ensures { Adds K.held K.faults sink.old sink.new text.old text.new (definition.load_words scale.now bits) }
 {
-    put_share(text, sink, tenths(bits, scale.to - scale.from));
+    put_load_share(text, sink, bits, scale.to - scale.from);
 }
 
-/// A load in the heading.
-fn put_load_heading<K: Sink>(text: &mut TextBuffer, sink: &mut K, scale: &Scale, bits: u128)
+/// For how many bit times of the scale the bus has carrier.
+fn bus_bits(scale: &Scale, list: &[Transmission], carrier: &[Stretch]) -> u128
+    requires carrier { IsCarrierOf carrier.now list.now }
+    ensures value { result ≡ definition.bus_bits scale.now list.now }
+    ensures few { result < 2 ^ 111 }
+{
+    u128::from(bits_within(carrier, scale.from, scale.to))
+}
+
+/// When all transmissions of a list have ended.
+fn last_end(list: &[Transmission]) -> u64
+    ensures { result ≡ greatest_end list.now }
+{
+    let mut end = 0;
+    for x in list {
+        end = end.max(x.end());
+    }
+    end
+}
+
+/// The load of the bus in the scale.
+fn put_share_to<K: Sink>(
+    text: &mut TextBuffer,
+    sink: &mut K,
+    scale: &Scale,
+    list: &[Transmission],
+    carrier: &[Stretch],
+)
     requires scale { IsScale scale.now }
-    requires few { bits < 2 ^ 111 }
-    ensures { Adds K.held K.faults sink.old sink.new text.old text.new (definition.load_heading scale.now bits) }
+    requires carrier { IsCarrierOf carrier.now list.now }
+    ensures { Adds K.held K.faults sink.old sink.new text.old text.new (definition.load_words scale.now (definition.bus_bits scale.now list.now)) }
+{
+    let bits = bus_bits(scale, list, carrier);
+    put_load_words(text, sink, scale, bits);
+}
+
+/// That up to the last end, where the scale goes on behind it.
+fn put_tail<K: Sink>(
+    text: &mut TextBuffer,
+    sink: &mut K,
+    scale: &Scale,
+    list: &[Transmission],
+    carrier: &[Stretch],
+)
+    requires scale { IsScale scale.now }
+    requires carrier { IsCarrierOf carrier.now list.now }
+    ensures { Adds K.held K.faults sink.old sink.new text.old text.new (definition.tail_heading scale.now list.now) }
+{
+    let end = last_end(list);
+    if scale.from < end && end < scale.to {
+        let front = Scale {
+            from: scale.from,
+            to: end,
+            left: scale.left,
+            width: scale.width,
+        };
+        begin_words(text, sink, Class::Detail, RIGHT_MARGIN, TAIL_LINE);
+        put_share_to(text, sink, &front, list, carrier);
+        text.put(sink, b" up to the last end");
+        end_words(text, sink);
+    }
+}
+
+/// The load of the bus in the heading.
+fn put_load_heading<K: Sink>(
+    text: &mut TextBuffer,
+    sink: &mut K,
+    scale: &Scale,
+    list: &[Transmission],
+    carrier: &[Stretch],
+)
+    requires scale { IsScale scale.now }
+    requires carrier { IsCarrierOf carrier.now list.now }
+    ensures { Adds K.held K.faults sink.old sink.new text.old text.new (definition.load_heading scale.now list.now) }
 {
     begin_words(text, sink, Class::Counts, RIGHT_MARGIN, ANSWER_LINE);
     text.put(sink, b"load ");
-    put_load_words(text, sink, scale, bits);
+    put_share_to(text, sink, scale, list, carrier);
     end_words(text, sink);
 }
 
@@ -146,16 +216,24 @@ fn put_lane_loads<K: Sink>(
 }
 
 /// The load of the bus.
-fn put_bus_load<K: Sink>(text: &mut TextBuffer, sink: &mut K, scale: &Scale, bits: u128)
+fn put_bus_load<K: Sink>(
+    text: &mut TextBuffer,
+    sink: &mut K,
+    scale: &Scale,
+    list: &[Transmission],
+    carrier: &[Stretch],
+)
     requires scale { IsScale scale.now }
-    requires few { bits < 2 ^ 111 }
-    ensures { Adds K.held K.faults sink.old sink.new text.old text.new (definition.bus_load scale.now bits) }
+    requires carrier { IsCarrierOf carrier.now list.now }
+    ensures { Adds K.held K.faults sink.old sink.new text.old text.new (definition.bus_load scale.now list.now) }
 {
-    put_load_heading(text, sink, scale, bits);
+    put_load_heading(text, sink, scale, list, carrier);
+    put_tail(text, sink, scale, list, carrier);
+    let bits = bus_bits(scale, list, carrier);
     put_load(text, sink, scale, PLOT_TOP + BUS_LINE, bits);
 }
 
-/// The load of the bus, from its carrier, and of each lane. It goes over the list once for each lane.
+/// The load of the bus, from its carrier, and of each lane. It goes over the list once, and once for each lane.
 pub(crate) fn put_loads<K: Sink>(
     text: &mut TextBuffer,
     sink: &mut K,
@@ -170,7 +248,6 @@ pub(crate) fn put_loads<K: Sink>(
     ensures { Adds K.held K.faults sink.old sink.new text.old text.new
         (definition.loads_text scale.now lanes.now list.now) }
 {
-    let bits = bits_within(carrier, scale.from, scale.to);
-    put_bus_load(text, sink, scale, u128::from(bits));
+    put_bus_load(text, sink, scale, list, carrier);
     put_lane_loads(text, sink, scale, list, lanes);
 }

@@ -112,11 +112,11 @@ fn put_all_dashes<K: Sink>(
     }
 }
 
-/// The middle of the words, so far from both edges that they have room.
+/// The middle of the words: at the line, and so far from the right edge that they have room. Left of the plot they have.
 pub(crate) fn words_middle(left: u64) -> u64
     ensures { result ≡ definition.words_middle left }
 {
-    left.max(WORDS_LEAST).min(WORDS_MOST)
+    left.min(WORDS_MOST)
 }
 
 /// The line at a place, and the words above it.

@@ -15,6 +15,9 @@ pub(crate) const PLOT_WIDTH: u64 = 8400;
 /// Where the words beside a lane end.
 pub(crate) const NAMES_RIGHT: u64 = 1380;
 
+/// The line of the load up to the last end, between those of the audit and of the counts.
+pub(crate) const TAIL_LINE: u64 = 585;
+
 /// Where the words on loads begin, so that `100.0 %` ends before the right edge of the picture.
 pub(crate) const LOAD_LEFT: u64 = 9940;
 
@@ -57,8 +60,14 @@ pub(crate) const BOX_BELOW: u64 = 60;
 /// The height of a box.
 pub(crate) const BOX_HEIGHT: u64 = 180;
 
-/// The least height of a box.
-pub(crate) const LEAST_HEIGHT: u64 = 20;
+/// The least height of a box: a pixel.
+pub(crate) const LEAST_HEIGHT: u64 = 10;
+
+/// How far the stroke of a message reaches beyond its edges: half of its width.
+pub(crate) const MESSAGE_OVERHANG: u64 = 5;
+
+/// How far that of a garbled transmission does.
+pub(crate) const GARBLED_OVERHANG: u64 = 7;
 
 /// How far below the upper edge of its row the box of a wordstring begins.
 pub(crate) const STRING_BELOW: u64 = 90;
@@ -114,8 +123,8 @@ pub(crate) const GAP_LINE: u64 = 118;
 /// How far below that edge the line of a transmit interval lies.
 pub(crate) const INTERVAL_BELOW: u64 = 275;
 
-/// How far below that edge the words of a transmit interval stand.
-pub(crate) const INTERVAL_LINE: u64 = 266;
+/// How far below that edge the words of a transmit interval stand: between the boxes of the row and those of the row above.
+pub(crate) const INTERVAL_LINE: u64 = 44;
 
 /// How far below that edge the stroke at the end of a transmit interval begins.
 pub(crate) const STROKE_BELOW: u64 = 258;
@@ -132,7 +141,7 @@ pub(crate) const OFFSET_HEIGHT: u64 = 46;
 /// The width of that tick.
 pub(crate) const OFFSET_WIDTH: u64 = 20;
 
-/// The least middle of the words of a breach, so that they have room.
+/// The middle of the words of a breach before the window.
 pub(crate) const WORDS_LEAST: u64 = 2500;
 
 /// The greatest middle of the words of a breach, so that they have room.

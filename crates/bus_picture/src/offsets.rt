@@ -2,12 +2,27 @@
 ghost use Rattle.std.specs.Prelude.{◌≡◌, ◌+◌, ◌*◌, ◌<◌, ◌≤◌, ◌^◌};
 ghost use Rattle.bus_outer.specs.Texts.{Adds};
 ghost use Rattle.bus_shapes.specs.Scales.{IsScale};
+ghost use Rattle.bus_audit.specs.Breaches as breaches;
 ghost use Rattle.bus_picture.specs.Offsets as definition;
 
 use crate::measures::{OFFSET_HEIGHT, OFFSET_WIDTH, TICK_BELOW};
 use bus_outer::{Sink, TextBuffer};
 use bus_shapes::{Area, Class, Scale, put_box};
 use bus_table::Mode;
+use bus_trace::Hold;
+
+/// How many messages a terminal held.
+pub(crate) fn held(holds: &[Hold], terminal: u8) -> u32
+    ensures { result ≡ breaches.held holds.now terminal }
+{
+    for hold in holds {
+        let hold = *hold;
+        if hold.terminal == terminal {
+            return hold.count;
+        }
+    }
+    0
+}
 
 /// How many starts of a sender should lie before a moment.
 fn rounds_before(ti: u64, at: u64, t: u64) -> u64
@@ -62,23 +77,25 @@ fn put_ticks<K: Sink>(
     top: u64,
     ti: u64,
     at: u64,
+    held: u64,
 )
     requires scale { IsScale scale.now }
     requires top { top < 100000 }
     requires some { 0 < ti }
     requires short { ti < 2 ^ 32 }
     ensures { Adds K.held K.faults sink.old sink.new text.old text.new
-        (definition.ticks_text scale.now top ti at) }
+        (definition.ticks_text scale.now top ti at held) }
 {
     let first = rounds_before(ti, at, scale.from);
-    let end = rounds_before(ti, at, scale.to);
+    let due = rounds_before(ti, at, scale.to);
+    let end = due.min(held);
     let count = end.saturating_sub(first);
     for k in 0..count {
         put_round(text, sink, scale, top, ti, at, first + k);
     }
 }
 
-/// The ticks of a sender with this offset.
+/// The ticks of a sender with this offset that held so many messages.
 fn put_periodic<K: Sink>(
     text: &mut TextBuffer,
     sink: &mut K,
@@ -86,16 +103,18 @@ fn put_periodic<K: Sink>(
     top: u64,
     ti: u32,
     at: u32,
+    held: u32,
 )
     requires scale { IsScale scale.now }
     requires top { top < 100000 }
     requires some { 0 < ti }
     ensures { Adds K.held K.faults sink.old sink.new text.old text.new
-        (definition.ticks_text scale.now top ti at) }
+        (definition.ticks_text scale.now top ti at held) }
 {
     let interval = u64::from(ti);
     let offset = u64::from(at);
-    put_ticks(text, sink, scale, top, interval, offset);
+    let most = u64::from(held);
+    put_ticks(text, sink, scale, top, interval, offset, most);
 }
 
 /// The same where the table is periodic. Their number is that of the transmit intervals in the scale.
@@ -107,15 +126,16 @@ pub(crate) fn put_offsets<K: Sink>(
     top: u64,
     ti: u32,
     at: u32,
+    held: u32,
 )
     requires scale { IsScale scale.now }
     requires top { top < 100000 }
     requires some { 0 < ti }
     ensures { Adds K.held K.faults sink.old sink.new text.old text.new
-        (definition.offsets_text mode scale.now top ti at) }
+        (definition.offsets_text mode scale.now top ti at held) }
 {
     match mode {
         Mode::Aperiodic => {}
-        Mode::Periodic => put_periodic(text, sink, scale, top, ti, at),
+        Mode::Periodic => put_periodic(text, sink, scale, top, ti, at, held),
     }
 }

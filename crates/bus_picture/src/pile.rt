@@ -169,6 +169,27 @@ pub(crate) fn put_pile_words<K: Sink>(
     put_share(text, sink, scale, pile);
 }
 
+/// Whether the square of a height is no more than the share of the square of the whole height that is busy.
+fn is_below_root(busy: u64, bits: u64, height: u64) -> bool
+    requires { height ≤ 180 }
+    ensures { result ≡ definition.is_below_root busy bits height }
+{
+    let square = u128::from(height * height) * u128::from(bits);
+    square <= u128::from(BOX_HEIGHT * BOX_HEIGHT) * u128::from(busy)
+}
+
+/// The square root of the share that is busy, of the height of a box.
+fn root_height(busy: u64, bits: u64) -> u64
+    ensures value { result ≡ definition.root_height busy bits }
+    ensures most { result ≤ 180 }
+{
+    let mut height = 0;
+    for k in 0..BOX_HEIGHT {
+        height += u64::from(is_below_root(busy, bits, k + 1));
+    }
+    height
+}
+
 /// The height of a box of transmissions that take less than a pixel.
 fn share_height(scale: &Scale, pile: &Pile) -> u64
     requires scale { IsScale scale.now }
@@ -176,9 +197,10 @@ fn share_height(scale: &Scale, pile: &Pile) -> u64
     ensures value { result ≡ definition.share_height scale.now pile.now }
     ensures most { result ≤ 180 }
 {
-    let whole = u128::from(BOX_HEIGHT);
-    let share = whole * u128::from(pile.busy) / u128::from(drawn_bits(scale, pile));
-    share.max(u128::from(LEAST_HEIGHT)).min(whole) as u64
+    let bits = drawn_bits(scale, pile);
+    root_height(pile.busy, bits)
+        .max(LEAST_HEIGHT)
+        .min(BOX_HEIGHT)
 }
 
 /// The height of a box.

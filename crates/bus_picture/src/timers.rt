@@ -10,7 +10,7 @@ ghost use Rattle.bus_picture.specs.TimeLines as whole;
 use crate::lanes::lane_top;
 use crate::lines::{has_words, is_drawn, line_area};
 use crate::measures::{GAP_BELOW, GAP_LINE, GAP_ROOM, NEAR_ROOM, PLOT_TOP};
-use crate::offsets::put_offsets;
+use crate::offsets::{held, put_offsets};
 use crate::starts::put_starts;
 use crate::track::Track;
 use bus_dump::Lane;
@@ -172,7 +172,8 @@ fn put_lane_sender<K: Sink>(
     let top = lane_top(k);
     let ti = table.ti();
     let at = sender.at();
-    put_offsets(text, sink, mode, scale, top, ti, at);
+    let held = held(trace.holds(), lane.terminal);
+    put_offsets(text, sink, mode, scale, top, ti, at, held);
 }
 
 /// The timers of lane `k`, where its terminal is a sender.

@@ -8,7 +8,7 @@ ghost use Rattle.bus_picture.specs.TimeLines.{time_line_text};
 ghost use Rattle.bus_picture.specs.TimeLines as definition;
 
 use crate::choosing::drawn_lanes;
-use crate::counting::counts;
+use crate::counting::{counts, has_thin};
 use crate::faults::put_told;
 use crate::lanes::{lane_top, put_fronts};
 use crate::legend::put_legend;
@@ -162,13 +162,15 @@ fn put_foot<K: Sink>(
     mode: Mode,
     trace: &Trace,
 )
-    requires { bottom < 100000 }
+    requires scale { IsScale scale.now }
+    requires bottom { bottom < 100000 }
     ensures { Adds K.held K.faults sink.old sink.new text.old text.new
         (definition.foot_text scale.now bottom left_out mode trace.now) }
 {
     put_left_out(text, sink, bottom, left_out);
     let tinted = has_tints(scale, trace);
-    put_legend(text, sink, mode, tinted, bottom + LEGEND_BELOW);
+    let thin = has_thin(scale, trace);
+    put_legend(text, sink, mode, tinted, thin, bottom + LEGEND_BELOW);
 }
 
 /// A picture with these lanes, and with so many left out.
@@ -192,6 +194,7 @@ fn put_picture<K: Sink>(
 {
     let bottom = lane_top(lanes.len());
     let counts = counts(scale, trace);
+    let list = trace.list();
     put_frame(
         text,
         sink,
@@ -199,7 +202,7 @@ fn put_picture<K: Sink>(
         verdict,
         told,
         table,
-        trace.list(),
+        list,
         &counts,
     );
     put_plot(

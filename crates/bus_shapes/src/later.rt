@@ -15,8 +15,6 @@ fn starts_behind(x: &Transmission, moment: u64, terminal: u8) -> bool
 pub(crate) fn later(list: &[Transmission], moment: u64, terminal: u8) -> Option<u64>
     ensures { result ≡ definition.later moment terminal list.now }
 {
-    let next = list
-        .iter()
-        .find(|x| starts_behind(x, moment, terminal))?;
+    let next = list.iter().find(|x| starts_behind(x, moment, terminal))?;
     Some(next.moment.saturating_sub(moment))
 }

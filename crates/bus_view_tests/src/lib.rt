@@ -14,6 +14,8 @@ mod itself;
 #[cfg(test)]
 mod judge;
 #[cfg(test)]
+mod late;
+#[cfg(test)]
 mod line;
 #[cfg(test)]
 mod paint;

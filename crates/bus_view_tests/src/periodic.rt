@@ -38,7 +38,7 @@ fn a_time_line_has_offsets_and_the_transmit_interval(rt: HostRuntime) -> Result<
         "; LAWFUL 0</title>\n",
         "<text class=\"detail\" x=\"1380\" y=\"1760\">TG 30 AT 0</text>\n",
         "<text class=\"detail\" x=\"1380\" y=\"2080\">TG 20 AT 90</text>\n",
-        "<text class=\"interval-words\" x=\"9136\" y=\"1756\">TI 2000</text>\n",
+        "<text class=\"interval-words\" x=\"9136\" y=\"1534\">TI 2000</text>\n",
         "<rect class=\"gap\" x=\"1576\" y=\"1953\" width=\"76\" height=\"14\"/>\n\
          <rect class=\"gap\" x=\"3218\" y=\"1953\" width=\"76\" height=\"14\"/>\n\
          <rect class=\"gap\" x=\"9212\" y=\"1953\" width=\"77\" height=\"14\"/>\n\

@@ -39,9 +39,9 @@ fn is_drawn_later(
 #[test]
 fn a_garbled_box_of_a_time_line(rt: HostRuntime) -> Result<(), Fail> {
     let words = ["svg", "T", "R", "0", "1000000"];
-    let plain = "<rect class=\"span\" x=\"1500\" y=\"1375\" width=\"32\" height=\"35\">\
+    let plain = "<rect class=\"span\" x=\"1500\" y=\"1330\" width=\"32\" height=\"80\">\
 <title>39 transmissions, moments 0 to 3920, busy 780 of 3920 bit times</title></rect>\n";
-    let garbled = "<rect class=\"garbled\" x=\"1508\" y=\"1390\" width=\"10\" height=\"20\">\
+    let garbled = "<rect class=\"narrow-garbled\" x=\"1508\" y=\"1382\" width=\"10\" height=\"28\">\
 <title>2 transmissions, moments 1000 to 1030, garbled, busy 30 of 1191 bit times</title></rect>\n";
     assert!(rt; is_drawn_later(&rt, &words, plain, garbled)?);
     Ok(())

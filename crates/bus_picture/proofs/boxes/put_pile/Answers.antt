@@ -1,23 +1,26 @@
-use Rattle.std.proofs.Common.{ℕ, ◌+◌, ◌-◌, ◌++◌, subst}
+use Rattle.std.proofs.Common.{ℕ, ◌+◌, ◌-◌, ◌++◌, ap, subst, ◌∙◌}
 use Rattle.bus_outer.specs.Texts.{Adds}
 use Rattle.bus_outer.proofs.TextLaws.{◌▸◌}
 use Rattle.bus_shapes.specs.declared.area.Area.{Area}
 use Rattle.bus_shapes.specs.declared.class.Class.{Class}
 use Rattle.bus_shapes.specs.Shapes.{titled_text}
-use Rattle.bus_picture.specs.Boxes.{pile_words}
-use Rattle.bus_picture.specs.Rows.{box_class, more_text, stretch}
+use Rattle.bus_picture.specs.Boxes.{is_narrow, pile_words}
+use Rattle.bus_picture.specs.Rows.{box_area, box_class, inset, more_text, overhang, stretch}
 use Rattle.bus_picture.proofs.boxes.put_pile.Goals as goal
 
 pub returns : goal.returns
 returns g c =
-    subst (λ (height : ℕ). Adds g.K.Sink.held g.K.Sink.faults c.args.sink.now c.put_more.new.sink c.args.text.now c.put_more.new.text
-    (titled_text (box_class c.args.scale.now c.args.row.now c.args.pile.now)
-    (stretch c.args.scale.now c.args.pile.now (c.args.row.now.top + 60 + (180 - height)) height) (pile_words c.args.scale.now c.args.pile.now)
-    ++ more_text c.args.row.now.terminal c.args.scale.now c.args.takers.now c.args.row.now c.args.list.now c.args.pile.now)) c.pile_height-height.ensures.value
-    (subst (λ (area : Area). Adds g.K.Sink.held g.K.Sink.faults c.args.sink.now c.put_more.new.sink c.args.text.now c.put_more.new.text
+    let whole : c.stretch-whole.result ≡ box_area c.args.scale.now c.args.row.now c.args.pile.now =
+    c.stretch-whole.ensures.value
+    ∙ ap (λ (height : ℕ). stretch c.args.scale.now c.args.pile.now (c.args.row.now.top + 60 + (180 - height)) height) c.pile_height-height.ensures.value in
+    let far : c.overhang.result ≡ overhang c.args.row.now (is_narrow c.args.scale.now c.args.pile.now.first) =
+    c.overhang.ensures.value ∙ ap (overhang c.args.row.now) c.is_narrow-narrow.ensures in
+    subst (λ (area : Area). Adds g.K.Sink.held g.K.Sink.faults c.args.sink.now c.put_more.new.sink c.args.text.now c.put_more.new.text
     (titled_text (box_class c.args.scale.now c.args.row.now c.args.pile.now) area (pile_words c.args.scale.now c.args.pile.now)
-    ++ more_text c.args.row.now.terminal c.args.scale.now c.args.takers.now c.args.row.now c.args.list.now c.args.pile.now)) c.stretch-area.ensures
+    ++ more_text c.args.row.now.terminal c.args.scale.now c.args.takers.now c.args.row.now c.args.list.now c.args.pile.now))
+    (c.inset-area.ensures ∙ ap (λ n. inset n c.stretch-whole.result) far
+    ∙ ap (inset (overhang c.args.row.now (is_narrow c.args.scale.now c.args.pile.now.first))) whole)
     (subst (λ (class : Class). Adds g.K.Sink.held g.K.Sink.faults c.args.sink.now c.put_more.new.sink c.args.text.now c.put_more.new.text
-    (titled_text class c.stretch-area.result (pile_words c.args.scale.now c.args.pile.now)
+    (titled_text class c.inset-area.result (pile_words c.args.scale.now c.args.pile.now)
     ++ more_text c.args.row.now.terminal c.args.scale.now c.args.takers.now c.args.row.now c.args.list.now c.args.pile.now)) c.box_class.ensures
-    ((c.begin_titled.ensures ▸ c.put_pile_words.ensures ▸ c.end_titled.ensures) ▸ c.put_more.ensures)))
+    ((c.begin_titled.ensures ▸ c.put_pile_words.ensures ▸ c.end_titled.ensures) ▸ c.put_more.ensures))

@@ -11,7 +11,7 @@ pub put_round-requires-clause-low : goal.put_round-requires-clause-low
 put_round-requires-clause-low g c =
     let before : c.args.at + (c.rounds_before-first.result + c.loop-k.k) * c.args.ti < c.args.scale.now.to =
     round_below c.args.ti c.args.at c.args.scale.now.to (c.rounds_before-first.result + c.loop-k.k) c.requires.some
-    (omega (arith, c.rounds_before-end.ensures, c.saturating_sub-count.ensures, c.loop-k-test.true)) in
+    (omega (arith, c.rounds_before-due.ensures, c.min-end.ensures, c.saturating_sub-count.ensures, c.loop-k-test.true)) in
     omega (arith, c.requires.scale.short)
 
 pub loop-k-preserved : goal.loop-k-preserved
@@ -25,8 +25,8 @@ loop-k-preserved g c =
 
 pub returns : goal.returns
 returns g c =
-    let all : c.loop-k.k ≡ rounds_in c.args.scale.now c.args.ti c.args.at =
-    omega (arith, c.rounds_before-first.ensures, c.rounds_before-end.ensures, c.saturating_sub-count.ensures) in
+    let all : c.loop-k.k ≡ rounds_in c.args.scale.now c.args.ti c.args.at c.args.held =
+    omega (arith, c.rounds_before-first.ensures, c.rounds_before-due.ensures, c.min-end.ensures, c.saturating_sub-count.ensures) in
     subst (λ (n : ℕ). Adds g.K.Sink.held g.K.Sink.faults c.args.sink.now c.loop-k.sink c.args.text.now c.loop-k.text
     (flat_map (tick_text c.args.scale.now c.args.top) (map (offset_moment c.args.ti c.args.at)
     (range_with_len (rounds_before c.args.ti c.args.at c.args.scale.now.from) n)))) all c.loop-k.invariant

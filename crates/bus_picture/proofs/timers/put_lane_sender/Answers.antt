@@ -4,6 +4,8 @@ use Rattle.bus_outer.proofs.TextLaws.{◌▸◌}
 use Rattle.bus_strings.specs.Messages.{Entry}
 use Rattle.bus_table.specs.declared.mode.Mode.{Mode}
 use Rattle.bus_table.proofs.ValidLaws.{valid_facts}
+use Rattle.bus_audit.specs.Breaches.{held}
+use Rattle.bus_trace.specs.declared.hold.Hold.{Hold}
 use Rattle.bus_picture.specs.Lanes.{lane_top}
 use Rattle.bus_picture.specs.Offsets.{offsets_text}
 use Rattle.bus_picture.specs.Timers.{Track, sender_timers, track_of}
@@ -23,10 +25,13 @@ returns g c =
     (subst (λ (list : List Entry). Adds g.K.Sink.held g.K.Sink.faults c.args.sink.now c.put_starts.new.sink c.args.text.now c.put_starts.new.text
     (sender_timers c.args.scale.now list c.track_of-track.result)) c.list-list.ensures.value c.put_starts.ensures)
     ▸ subst (λ (mode : Mode). Adds g.K.Sink.held g.K.Sink.faults c.put_starts.new.sink c.put_offsets.new.sink c.put_starts.new.text c.put_offsets.new.text
-    (offsets_text mode c.args.scale.now (lane_top c.args.k) c.args.table.now.ti c.args.sender.now.at)) c.mode-mode.ensures.value
+    (offsets_text mode c.args.scale.now (lane_top c.args.k) c.args.table.now.ti c.args.sender.now.at (held c.args.trace.now.holds c.args.lane.terminal))) c.mode-mode.ensures.value
     (subst (λ (top : ℕ). Adds g.K.Sink.held g.K.Sink.faults c.put_starts.new.sink c.put_offsets.new.sink c.put_starts.new.text c.put_offsets.new.text
-    (offsets_text c.mode-mode.result c.args.scale.now top c.args.table.now.ti c.args.sender.now.at)) c.lane_top-top.ensures.value
+    (offsets_text c.mode-mode.result c.args.scale.now top c.args.table.now.ti c.args.sender.now.at (held c.args.trace.now.holds c.args.lane.terminal))) c.lane_top-top.ensures.value
     (subst (λ (ti : ℕ). Adds g.K.Sink.held g.K.Sink.faults c.put_starts.new.sink c.put_offsets.new.sink c.put_starts.new.text c.put_offsets.new.text
-    (offsets_text c.mode-mode.result c.args.scale.now c.lane_top-top.result ti c.args.sender.now.at)) c.ti-ti.ensures.value
+    (offsets_text c.mode-mode.result c.args.scale.now c.lane_top-top.result ti c.args.sender.now.at (held c.args.trace.now.holds c.args.lane.terminal))) c.ti-ti.ensures.value
     (subst (λ (at : ℕ). Adds g.K.Sink.held g.K.Sink.faults c.put_starts.new.sink c.put_offsets.new.sink c.put_starts.new.text c.put_offsets.new.text
-    (offsets_text c.mode-mode.result c.args.scale.now c.lane_top-top.result c.ti-ti.result at)) c.at-at.ensures.value c.put_offsets.ensures)))
+    (offsets_text c.mode-mode.result c.args.scale.now c.lane_top-top.result c.ti-ti.result at (held c.args.trace.now.holds c.args.lane.terminal))) c.at-at.ensures.value
+    (subst (λ (count : ℕ). Adds g.K.Sink.held g.K.Sink.faults c.put_starts.new.sink c.put_offsets.new.sink c.put_starts.new.text c.put_offsets.new.text
+    (offsets_text c.mode-mode.result c.args.scale.now c.lane_top-top.result c.ti-ti.result c.at-at.result count))
+    (c.held-held.ensures ∙ ap (λ (holds : List Hold). held holds c.args.lane.terminal) c.holds.ensures.value) c.put_offsets.ensures))))

@@ -1,8 +1,9 @@
-use Rattle.std.proofs.Common.{ℕ, ◌+◌, ◌++◌, subst}
+use Rattle.std.proofs.Common.{ℕ, List, ◌+◌, ◌++◌, subst}
 use Rattle.bus_outer.specs.Texts.{Adds}
 use Rattle.bus_outer.proofs.TextLaws.{◌▸◌}
 use Rattle.bus_shapes.specs.declared.counts.Counts.{Counts}
 use Rattle.bus_shapes.specs.Frames.{frame_text, tail_text}
+use Rattle.bus_strings.specs.Messages.{Entry}
 use Rattle.bus_table.specs.declared.mode.Mode.{Mode}
 use Rattle.bus_picture.specs.TimeLines.{counts_of, foot_text, plot_text}
 use Rattle.bus_picture.proofs.writing.put_picture.Goals as goal
@@ -21,4 +22,8 @@ returns g c =
     (frame_text (c.lane_top-bottom.result + 1060) c.args.verdict.now c.args.told.now c.args.table.now c.args.trace.now.list counts
     ++ plot_text c.args.scale.now c.lane_top-bottom.result c.args.lanes.now c.args.told.now c.args.table.now c.args.trace.now
     ++ foot_text c.args.scale.now c.lane_top-bottom.result c.args.left_out c.args.table.now.mode c.args.trace.now ++ tail_text)) c.counts-counts.ensures
-    (c.put_frame.ensures ▸ c.put_plot.ensures ▸ foot ▸ c.put_tail.ensures))
+    (subst (λ (list : List Entry). Adds g.K.Sink.held g.K.Sink.faults c.args.sink.now c.put_tail.new.sink c.args.text.now c.put_tail.new.text
+    (frame_text (c.lane_top-bottom.result + 1060) c.args.verdict.now c.args.told.now c.args.table.now list c.counts-counts.result
+    ++ plot_text c.args.scale.now c.lane_top-bottom.result c.args.lanes.now c.args.told.now c.args.table.now c.args.trace.now
+    ++ foot_text c.args.scale.now c.lane_top-bottom.result c.args.left_out c.args.table.now.mode c.args.trace.now ++ tail_text)) c.list-list.ensures.value
+    (c.put_frame.ensures ▸ c.put_plot.ensures ▸ foot ▸ c.put_tail.ensures)))

@@ -1,0 +1,63 @@
+-- The stroke of a box lies within its area.
+use Rattle.std.proofs.Common.{◌≡◌, ℕ, ◌+◌, ◌*◌, ◌-◌, ◌<◌, ◌≤◌, Bool, true, false, cond, max, List, [], ◌∷◌, fold, Option, Some, None, inl, inr, arith, refl, sym, ap, ◌∙◌}
+use Rattle.std.specs.Prelude.{nat_lt}
+use Rattle.std.proofs.lemmas.Bool.{cases_Bool, le-ltb, ltb-false}
+use Rattle.bus_shapes.specs.declared.area.Area.{Area}
+use Rattle.bus_shapes.specs.declared.scale.Scale.{Scale}
+use Rattle.bus_shapes.specs.declared.sent.Sent.{Sent}
+use Rattle.bus_shapes.specs.Scales.{IsScale, extent, place}
+use Rattle.bus_shapes.proofs.ScaleLemmas.{place_rises}
+use Rattle.bus_picture.specs.Boxes.{Box, Pile, grown, is_narrow, is_thin, one, pile_height, pile_of, share_height}
+use Rattle.bus_picture.specs.Laws.{StrokesLieWithin, with_stroke}
+use Rattle.bus_picture.specs.Rows.{Row, box_area, drawn_area, inset, overhang, plain_overhang}
+
+no_earlier : (pile : Pile) (xs : List Sent) → pile.end ≤ (fold grown pile xs).end
+no_earlier pile [] = omega arith
+no_earlier pile (x ∷ xs) = omega (arith, no_earlier (grown pile x) xs)
+
+first_kept : (pile : Pile) (xs : List Sent) → (fold grown pile xs).first ≡ pile.first
+first_kept pile [] = refl
+first_kept pile (x ∷ xs) = first_kept (grown pile x) xs
+
+few_plain : (terminal : Option ℕ) → plain_overhang terminal ≤ 7
+few_plain None = omega arith
+few_plain (Some n) = omega arith
+
+few_by : (g : Bool) (terminal : Option ℕ) → cond g 7 (plain_overhang terminal) ≤ 7
+few_by true terminal = omega arith
+few_by false terminal = few_plain terminal
+
+same_area : (a b : Area) → a.left ≡ b.left → a.top ≡ b.top → a.width ≡ b.width → a.height ≡ b.height → a ≡ b
+same_area a b l t w h =
+    ap (λ n. record { left = n; top = a.top; width = a.width; height = a.height }) l
+    ∙ ap (λ n. record { left = b.left; top = n; width = a.width; height = a.height }) t
+    ∙ ap (λ n. record { left = b.left; top = b.top; width = n; height = a.height }) w
+    ∙ ap (λ n. record { left = b.left; top = b.top; width = b.width; height = n }) h
+
+-- An area with room for it takes it back.
+back : (n : ℕ) (area : Area) → 2 * n ≤ area.width → 2 * n ≤ area.height → with_stroke n (inset n area) ≡ area
+back n area wide high =
+    same_area (with_stroke n (inset n area)) area (omega arith) (omega arith) (omega arith) (omega arith)
+
+by_thin : (share : ℕ) (thin : Bool) → thin ≡ false → cond thin share 180 ≡ 180
+by_thin share true e = absurd cc
+by_thin share false e = refl
+
+by_narrow : (scale : Scale) (row : Row) (box : Box) (narrow : Bool) → IsScale scale → is_narrow scale (pile_of box).first ≡ narrow
+    → with_stroke (overhang row narrow) (inset (overhang row narrow) (box_area scale row (pile_of box))) ≡ box_area scale row (pile_of box)
+by_narrow scale row box true s e = back 0 (box_area scale row (pile_of box)) (omega arith) (omega arith)
+by_narrow scale row box false s e =
+    let pile : Pile = pile_of box in
+    let few : overhang row false ≤ 7 = few_by row.garbled row.terminal in
+    let first : pile.first ≡ box.first = first_kept (one box.first) box.others in
+    let end : box.first.end ≤ pile.end = no_earlier (one box.first) box.others in
+    let same_end : pile.first.end ≡ box.first.end = ap (λ (x : Sent). x.end) first in
+    let later : place scale pile.first.end ≤ place scale pile.end = place_rises scale pile.first.end pile.end s (omega arith) in
+    let wide : 60 ≤ extent scale pile.first.moment pile.first.end = ltb-false (extent scale pile.first.moment pile.first.end) 60 e in
+    let thin : is_thin scale pile.first ≡ false = le-ltb (place scale pile.first.end) (place scale pile.first.moment + 10) (omega arith) in
+    let tall : pile_height scale pile ≡ 180 = by_thin (share_height scale pile) (is_thin scale pile.first) thin in
+    let whole : 60 ≤ extent scale pile.first.moment pile.end = omega arith in
+    back (overhang row false) (box_area scale row pile) (omega arith) (omega arith)
+
+pub strokes_lie_within : StrokesLieWithin
+strokes_lie_within scale row box s = by_narrow scale row box (is_narrow scale (pile_of box).first) s refl
