@@ -35,7 +35,7 @@ use Rattle.bus_page.specs.Latencies.{latencies_text}
 use Rattle.bus_page.specs.Rooms.{rooms_text}
 use Rattle.bus_page.specs.Slots.{begin_of, slots_of}
 use Rattle.bus_page.specs.Turns.{turns_of}
-use Rattle.bus_page.specs.Waits.{waits_text}
+use Rattle.bus_page.specs.Waits.{waits_legend, waits_text}
 
 -- ---- pictures
 -- The times of an accepted table with these numbers of its verdict.
@@ -58,7 +58,7 @@ limits_picture table =
 abbrev pub waits_picture : Table → (most : ℕ) → List ℕ
 waits_picture table most =
     section_text (codes "How long data wait: those that just miss a start, until their message is sent, without delays")
-    ++ waits_text most table.senders
+    ++ waits_legend ++ waits_text most table.senders
 
 abbrev pub latencies_section : Table → (most : ℕ) → List ℕ
 latencies_section table most =

@@ -98,14 +98,20 @@ periodic_rows rooms =
     rule_text 0 (codes "hearing") (periodic_span rooms.hearing) ++ rule_text 1 (codes "sync") (periodic_span rooms.sync)
     ++ rule_text 2 (codes "order") (periodic_span rooms.order) ++ rule_text 3 (codes "begin") (periodic_span rooms.begin)
 
--- So many rows as a picture.
-abbrev pub rows_picture : (count : ℕ) → List ℕ → List ℕ
-rows_picture count rows = picture_front (rows_top + row_height * count) (codes "How much room each rule leaves") ++ rows ++ picture_end
+-- The beginning of a picture of so many rows.
+abbrev pub rows_front : (count : ℕ) → List ℕ
+rows_front count = picture_front (rows_top + row_height * count) (codes "How much room each rule leaves")
 
--- The picture of a table of this mode.
+-- The picture of a table of each mode.
+abbrev pub aperiodic_picture : AperiodicRooms → List ℕ
+aperiodic_picture rooms = rows_front 8 ++ aperiodic_rows rooms ++ picture_end
+
+abbrev pub periodic_picture : PeriodicRooms → List ℕ
+periodic_picture rooms = rows_front 4 ++ periodic_rows rooms ++ picture_end
+
 abbrev pub mode_rooms : Mode → Bounds → Table → List ℕ
-mode_rooms Aperiodic bounds table = rows_picture 8 (aperiodic_rows (aperiodic_margins.margins_of bounds table).rooms)
-mode_rooms Periodic bounds table = rows_picture 4 (periodic_rows (periodic_margins.margins_of bounds table).rooms)
+mode_rooms Aperiodic bounds table = aperiodic_picture (aperiodic_margins.margins_of bounds table).rooms
+mode_rooms Periodic bounds table = periodic_picture (periodic_margins.margins_of bounds table).rooms
 
 -- Under its heading, with what its bars mean.
 abbrev pub rooms_front : List ℕ

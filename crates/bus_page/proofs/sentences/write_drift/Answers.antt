@@ -4,7 +4,7 @@ use Rattle.bus_outer.specs.Sinks.{WritesText}
 use Rattle.bus_outer.specs.declared.sink.WriteFault.{WriteFault as Fault}
 use Rattle.bus_outer.proofs.WriteLaws.{writes_nothing}
 use Rattle.bus_page.specs.Pages.{drifting_in}
-use Rattle.bus_page.proofs.page.write_drift.Goals as goal
+use Rattle.bus_page.proofs.sentences.write_drift.Goals as goal
 
 pub returns-in-Aperiodic : goal.returns-in-Aperiodic
 returns-in-Aperiodic g c =

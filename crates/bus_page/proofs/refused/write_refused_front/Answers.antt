@@ -1,5 +1,5 @@
 use Rattle.bus_outer.proofs.TextLaws.{◌▸◌, ends_text}
-use Rattle.bus_page.proofs.page.write_refused_front.Goals as goal
+use Rattle.bus_page.proofs.refused.write_refused_front.Goals as goal
 
 pub returns : goal.returns
 returns g c =

@@ -9,7 +9,7 @@ use Rattle.bus_explain.specs.Accepted.{accepted_text}
 use Rattle.bus_reach.specs.Bearing.{tolerance_of}
 use Rattle.bus_page.specs.Pages.{drifting_in}
 use Rattle.bus_page.proofs.CutLemmas.{text_cut}
-use Rattle.bus_page.proofs.page.write_sentences.Goals as goal
+use Rattle.bus_page.proofs.sentences.write_sentences.Goals as goal
 
 pub write_accepted-requires : goal.write_accepted-requires
 write_accepted-requires g c = c.requires.accepted
