@@ -98,10 +98,13 @@ legend_text =
     codes "<p>The bar of a rule is the greatest delay that it alone bears, and the line through them what the table bears. "
     ++ codes "Of a rule that bears every delay the bar has the full width.</p>\n"
 
+abbrev pub explained_text : Option ℕ → List Limit → List ℕ
+explained_text tolerance limits = legend_text ++ picture_text tolerance limits
+
 -- Both, or that there are none.
 abbrev pub told_text : (none : Bool) → Option ℕ → List Limit → List ℕ
 told_text true tolerance limits = codes "<p>None: one sender alone keeps its times, however long the cable is.</p>\n"
-told_text false tolerance limits = legend_text ++ picture_text tolerance limits
+told_text false tolerance limits = explained_text tolerance limits
 
 -- What is told of the limits of a table with this tolerance.
 abbrev pub bars_text : Option ℕ → List Limit → List ℕ

@@ -152,7 +152,7 @@ abbrev pub whole_page : (program bytes : List ℕ) → WholeReason → List ℕ
 whole_page program bytes reason = bare_front ++ (whole_text reason ++ foot_text program bytes)
 
 -- Of a text that gives no valid table for this reason; want of memory is no reason of a text.
-unfoldable pub error_page : (program bytes : List ℕ) → TableError → List ℕ
+abbrev pub error_page : (program bytes : List ℕ) → TableError → List ℕ
 error_page program bytes (Text line reason) = unread_page program bytes line reason
 error_page program bytes (Whole reason) = whole_page program bytes reason
 error_page program bytes Memory = []

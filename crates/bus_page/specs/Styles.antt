@@ -33,7 +33,7 @@ shapes_text =
     ++ codes ".number,.digits{text-anchor:middle}.digits{fill:#fff}.answer{font-weight:bold;fill:var(--limits)}\n"
     ++ codes ".gap-words{font-size:100px;fill:var(--gap-words)}.interval-words{font-size:100px;fill:var(--ti)}\n"
     ++ codes ".tick{fill:var(--small)}.grid{fill:var(--grid)}.sent{fill:var(--sent)}.join{fill:var(--join)}\n"
-    ++ codes ".gap{fill:var(--gap)}.ti,.tolerance{fill:var(--ti)}.need{fill:var(--words)}.spare{fill:var(--spare)}\n"
+    ++ codes ".gap{fill:var(--gap)}.ti{fill:var(--ti)}.tolerance,.need{fill:var(--words)}.spare{fill:var(--spare)}\n"
     ++ codes ".synchronizes{fill:var(--synchronizes)}.bears{fill:var(--bears)}.limits{fill:var(--limits)}\n"
     ++ codes ".wait{fill:var(--wait)}@media print{body{margin:0;max-width:none;font-size:11px}h2{break-after:avoid}\n"
     ++ codes "svg,tr,li{break-inside:avoid}}\n"

@@ -231,6 +231,20 @@ fn put_legend<K: Sink>(text: &mut TextBuffer, sink: &mut K)
     );
 }
 
+/// Puts that, and the picture.
+fn put_explained<K: Sink>(
+    text: &mut TextBuffer,
+    sink: &mut K,
+    tolerance: Option<u64>,
+    limits: &[Limit],
+)
+    requires { length limits.now ≤ 1000 }
+    ensures { Adds K.held K.faults sink.old sink.new text.old text.new (definition.explained_text tolerance limits.now) }
+{
+    put_legend(text, sink);
+    put_picture(text, sink, tolerance, limits);
+}
+
 /// Puts both, or that there are no limits.
 fn put_told<K: Sink>(
     text: &mut TextBuffer,
@@ -248,8 +262,7 @@ fn put_told<K: Sink>(
             b"<p>None: one sender alone keeps its times, however long the cable is.</p>\n",
         );
     } else {
-        put_legend(text, sink);
-        put_picture(text, sink, tolerance, limits);
+        put_explained(text, sink, tolerance, limits);
     }
 }
 

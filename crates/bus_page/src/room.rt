@@ -1,5 +1,5 @@
 //! How much room a table leaves by each rule of the margins within bounds: a bar for each.
-ghost use Rattle.std.specs.Prelude.{◌≡◌, ◌<◌, ◌≤◌, ◌^◌};
+ghost use Rattle.std.specs.Prelude.{◌≡◌, ◌<◌, ◌^◌, pos, ◌-ℤ◌};
 ghost use Rattle.bus_outer.specs.Texts.{Adds};
 ghost use Rattle.bus_shapes.specs.Scales.{IsScale};
 ghost use Rattle.bus_page.specs.Rooms as definition;
@@ -28,6 +28,13 @@ impl Span {
         ensures { result ≡ definition.is_short self }
     {
         self.have < self.need
+    }
+
+    /// How much more there is than the rule needs, below 0 where there is less.
+    fn room(self) -> i128
+        ensures { result ≡ pos self.have -ℤ pos self.need }
+    {
+        i128::from(self.have) - i128::from(self.need)
     }
 
     /// From nothing to the greater of both.
@@ -83,7 +90,7 @@ fn put_room_words<K: Sink>(text: &mut TextBuffer, sink: &mut K, span: Span)
     ensures { Adds K.held K.faults sink.old sink.new text.old text.new (definition.room_words span) }
 {
     text.put(sink, b"room ");
-    text.put_number(sink, i128::from(span.have) - i128::from(span.need));
+    text.put_number(sink, span.room());
     text.put(sink, b" ns");
 }
 

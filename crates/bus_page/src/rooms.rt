@@ -1,5 +1,5 @@
 //! The rules of the margins of a table, each with its row.
-ghost use Rattle.std.specs.Prelude.{◌≡◌};
+ghost use Rattle.std.specs.Prelude.{◌<◌};
 ghost use Rattle.bus_outer.specs.Texts.{Adds};
 ghost use Rattle.bus_page.specs.Rooms as definition;
 
@@ -8,33 +8,63 @@ use crate::measures::{ROW_HEIGHT, ROWS_TOP};
 use crate::paint::{begin_picture, end_picture};
 use crate::room::{aperiodic_span, periodic_span, put_rule};
 use bus_bounds::Bounds;
-use bus_margins::Rooms as AperiodicRooms;
-use bus_margins_periodic::Rooms as PeriodicRooms;
+use bus_margins::{Room as AperiodicRoom, Rooms as AperiodicRooms};
+use bus_margins_periodic::{Room as PeriodicRoom, Rooms as PeriodicRooms};
 use bus_outer::{Sink, TextBuffer};
 use bus_table::{Mode, Table};
+
+/// Puts the row of a rule of an aperiodic table, with so many rows above it.
+fn put_aperiodic_rule<K: Sink>(
+    text: &mut TextBuffer,
+    sink: &mut K,
+    above: u64,
+    name: &[u8],
+    room: Option<AperiodicRoom>,
+)
+    requires { above < 100 }
+    ensures { Adds K.held K.faults sink.old sink.new text.old text.new
+        (definition.rule_text above name.now (definition.aperiodic_span room)) }
+{
+    put_rule(text, sink, above, name, aperiodic_span(room));
+}
+
+/// Puts the row of a rule of a periodic table, with so many rows above it.
+fn put_periodic_rule<K: Sink>(
+    text: &mut TextBuffer,
+    sink: &mut K,
+    above: u64,
+    name: &[u8],
+    room: Option<PeriodicRoom>,
+)
+    requires { above < 100 }
+    ensures { Adds K.held K.faults sink.old sink.new text.old text.new
+        (definition.rule_text above name.now (definition.periodic_span room)) }
+{
+    put_rule(text, sink, above, name, periodic_span(room));
+}
 
 /// Puts the rules of an aperiodic table.
 fn put_aperiodic_rows<K: Sink>(text: &mut TextBuffer, sink: &mut K, rooms: AperiodicRooms)
     ensures { Adds K.held K.faults sink.old sink.new text.old text.new (definition.aperiodic_rows rooms) }
 {
-    put_rule(text, sink, 0, b"whole", aperiodic_span(rooms.whole));
-    put_rule(text, sink, 1, b"drop", aperiodic_span(rooms.drop));
-    put_rule(text, sink, 2, b"turns", aperiodic_span(rooms.turns));
-    put_rule(text, sink, 3, b"opening", aperiodic_span(rooms.opening));
-    put_rule(text, sink, 4, b"waiting", aperiodic_span(rooms.waiting));
-    put_rule(text, sink, 5, b"joining", aperiodic_span(rooms.joining));
-    put_rule(text, sink, 6, b"interval", aperiodic_span(rooms.interval));
-    put_rule(text, sink, 7, b"cycle", aperiodic_span(rooms.cycle));
+    put_aperiodic_rule(text, sink, 0, b"whole", rooms.whole);
+    put_aperiodic_rule(text, sink, 1, b"drop", rooms.drop);
+    put_aperiodic_rule(text, sink, 2, b"turns", rooms.turns);
+    put_aperiodic_rule(text, sink, 3, b"opening", rooms.opening);
+    put_aperiodic_rule(text, sink, 4, b"waiting", rooms.waiting);
+    put_aperiodic_rule(text, sink, 5, b"joining", rooms.joining);
+    put_aperiodic_rule(text, sink, 6, b"interval", rooms.interval);
+    put_aperiodic_rule(text, sink, 7, b"cycle", rooms.cycle);
 }
 
 /// Puts those of a periodic table.
 fn put_periodic_rows<K: Sink>(text: &mut TextBuffer, sink: &mut K, rooms: PeriodicRooms)
     ensures { Adds K.held K.faults sink.old sink.new text.old text.new (definition.periodic_rows rooms) }
 {
-    put_rule(text, sink, 0, b"hearing", periodic_span(rooms.hearing));
-    put_rule(text, sink, 1, b"sync", periodic_span(rooms.sync));
-    put_rule(text, sink, 2, b"order", periodic_span(rooms.order));
-    put_rule(text, sink, 3, b"begin", periodic_span(rooms.begin));
+    put_periodic_rule(text, sink, 0, b"hearing", rooms.hearing);
+    put_periodic_rule(text, sink, 1, b"sync", rooms.sync);
+    put_periodic_rule(text, sink, 2, b"order", rooms.order);
+    put_periodic_rule(text, sink, 3, b"begin", rooms.begin);
 }
 
 /// Begins a picture of so many rows; these come next, and then [`end_picture`].

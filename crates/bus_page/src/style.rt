@@ -43,7 +43,7 @@ fn shapes() -> &'static [u8]
 .number,.digits{text-anchor:middle}.digits{fill:#fff}.answer{font-weight:bold;fill:var(--limits)}
 .gap-words{font-size:100px;fill:var(--gap-words)}.interval-words{font-size:100px;fill:var(--ti)}
 .tick{fill:var(--small)}.grid{fill:var(--grid)}.sent{fill:var(--sent)}.join{fill:var(--join)}
-.gap{fill:var(--gap)}.ti,.tolerance{fill:var(--ti)}.need{fill:var(--words)}.spare{fill:var(--spare)}
+.gap{fill:var(--gap)}.ti{fill:var(--ti)}.tolerance,.need{fill:var(--words)}.spare{fill:var(--spare)}
 .synchronizes{fill:var(--synchronizes)}.bears{fill:var(--bears)}.limits{fill:var(--limits)}
 .wait{fill:var(--wait)}@media print{body{margin:0;max-width:none;font-size:11px}h2{break-after:avoid}
 svg,tr,li{break-inside:avoid}}

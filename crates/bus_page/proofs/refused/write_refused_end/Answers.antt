@@ -23,7 +23,7 @@ returns g c =
     let is = ap (λ (l : List Advice). told l refusal.planned) (c.deref.ensures.value ∙ c.requires.advices) ∙ ap (λ (t : Option Table). told (advices_of table) t) c.requires.planned in
     let ok : Result (Unit {0}) Fault = Ok c.in_ok-write_refused.field-0 in
     writes_then g.K.Sink.held g.K.Sink.faults c.args.sink.now c.write_refused.new.sink c.write_foot.new.sink c.in_ok-write_refused.field-0 c.write_foot.result
-    (told (advices_of table) (periodic_table table)) (foot_text c.args.program.now c.args.bytes.now table)
+    (told (advices_of table) (periodic_table table)) (foot_text c.args.program.now c.args.bytes.now)
     (subst (WritesText g.K.Sink.held g.K.Sink.faults c.args.sink.now c.write_refused.new.sink ok) is c.in_ok-write_refused.ensures)
     c.write_foot.ensures
 
@@ -35,6 +35,6 @@ returns-in_err-write_refused g c =
     let is = ap (λ (l : List Advice). told l refusal.planned) (c.deref.ensures.value ∙ c.requires.advices) ∙ ap (λ (t : Option Table). told (advices_of table) t) c.requires.planned in
     let cut : Result (Unit {0}) Fault = Err c.in_err-write_refused.field-0.0 in
     text_cut g.K.Sink c.args.sink.now c.write_refused.new.sink c.in_err-write_refused.field-0.0 c.from_residual.result
-    (told (advices_of table) (periodic_table table)) (foot_text c.args.program.now c.args.bytes.now table)
+    (told (advices_of table) (periodic_table table)) (foot_text c.args.program.now c.args.bytes.now)
     (subst (WritesText g.K.Sink.held g.K.Sink.faults c.args.sink.now c.write_refused.new.sink cut) is c.in_err-write_refused.ensures)
     c.from_residual.ensures.1
