@@ -64,7 +64,7 @@ interval_text scale ti =
 
 -- The words of the spare, before it; of the synchronization gap; and of how much longer the longest cycle is.
 abbrev pub spare_words : Scale → (ti least : ℕ) → List ℕ
-spare_words scale ti least = number_words IntervalWords (place scale ti - 60) 325 (codes "spare ") (least - ti)
+spare_words scale ti least = number_words IntervalWords (place scale ti - 60) 315 (codes "spare ") (least - ti)
 
 abbrev pub gap_words : Scale → ℕ → List ℕ
 gap_words scale sg = number_words GapWords (place scale 0) 770 (codes "SG ") sg

@@ -36,7 +36,7 @@ shapes_text =
     ++ codes ".gap{fill:var(--gap)}.ti{fill:var(--ti)}.tolerance,.need{fill:var(--words)}.spare{fill:var(--spare)}\n"
     ++ codes ".synchronizes{fill:var(--synchronizes)}.bears{fill:var(--bears)}.limits{fill:var(--limits)}\n"
     ++ codes ".wait{fill:var(--wait)}@media print{body{margin:0;max-width:none;font-size:11px}h2{break-after:avoid}\n"
-    ++ codes "svg,tr,li{break-inside:avoid}}\n"
+    ++ codes "svg,tr,li{break-inside:avoid}}@page{size:A4;margin:12mm}\n"
 
 -- The style.
 abbrev pub style_text : List ℕ

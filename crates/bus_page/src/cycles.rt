@@ -208,7 +208,7 @@ fn put_spare_words<K: Sink>(text: &mut TextBuffer, sink: &mut K, scale: &Scale, 
         sink,
         Class::IntervalWords,
         right,
-        325,
+        315,
         b"spare ",
         spare,
     );

@@ -46,7 +46,7 @@ fn shapes() -> &'static [u8]
 .gap{fill:var(--gap)}.ti{fill:var(--ti)}.tolerance,.need{fill:var(--words)}.spare{fill:var(--spare)}
 .synchronizes{fill:var(--synchronizes)}.bears{fill:var(--bears)}.limits{fill:var(--limits)}
 .wait{fill:var(--wait)}@media print{body{margin:0;max-width:none;font-size:11px}h2{break-after:avoid}
-svg,tr,li{break-inside:avoid}}
+svg,tr,li{break-inside:avoid}}@page{size:A4;margin:12mm}
 "
 }
 
