@@ -1,6 +1,6 @@
 -- What is said of an accepted table, a sentence a line.
 --   least, most   the verdict's: two starts of a sender are at least and at most so far apart
-use Rattle.std.specs.Prelude.{◌≡◌, ℕ, Bool, true, false, List, [], ◌++◌, codes, Option, Some, None}
+use Rattle.std.specs.Prelude.{◌≡◌, ℕ, List, ◌++◌, codes, Option, Some, None}
 use Rattle.bus_table.specs.declared.mode.Mode.{Mode}
 use Rattle.bus_table.specs.declared.mode.Mode.TheVariants.{Aperiodic, Periodic}
 use Rattle.bus_table.specs.Tables.{Table}
@@ -86,21 +86,8 @@ abbrev pub tolerance_line : Mode → Option ℕ → List ℕ
 tolerance_line mode None = codes "The tolerance has no end: one sender alone keeps its times, however long the cable is.\n"
 tolerance_line mode (Some delay) = delay_line mode delay
 
--- The senders in columns, where they are asked for.
-abbrev pub rows_text : (rows : Bool) → Mode → Table → (most : ℕ) → List ℕ
-rows_text true mode table most = senders_text mode table most
-rows_text false mode table most = []
-
--- What is said of an accepted table, on which there are these advices, with its senders or without.
-abbrev pub told_text : (rows : Bool) → Table → (least most : ℕ) → Option ℕ → List Advice → List ℕ
-told_text rows table least most tolerance advices =
-    accepted_line ++ cycles_line table.mode least most ++ spare_line table.mode (spare table least) ++ load_line (load table most)
-    ++ rows_text rows table.mode table most ++ tolerance_line table.mode tolerance ++ start_text table.mode table advices
-
--- All that is said of it.
+-- All that is said of an accepted table, on which there are these advices.
 abbrev pub accepted_text : Table → (least most : ℕ) → Option ℕ → List Advice → List ℕ
-accepted_text = told_text true
-
--- The same without its senders.
-abbrev pub brief_text : Table → (least most : ℕ) → Option ℕ → List Advice → List ℕ
-brief_text = told_text false
+accepted_text table least most tolerance advices =
+    accepted_line ++ cycles_line table.mode least most ++ spare_line table.mode (spare table least) ++ load_line (load table most)
+    ++ senders_text table.mode table most ++ tolerance_line table.mode tolerance ++ start_text table.mode table advices

@@ -15,20 +15,6 @@ use bus_table::laws::table_is_valid;
 use bus_table::ranges::{LEAST_TI, MOST_TI};
 use bus_table::{Mode, Table};
 
-/// Puts that a table is accepted.
-fn put_first<K: Sink>(text: &mut TextBuffer, sink: &mut K)
-    ensures { Adds K.held K.faults sink.old sink.new text.old text.new accepted.accepted_line }
-{
-    text.put(
-        sink,
-        b"The table is accepted: from a settled start, with no delay on the way and as many messages for each, ",
-    );
-    text.put(
-        sink,
-        b"its senders take turns and no two of them talk over each other.\n",
-    );
-}
-
 /// Puts how long the cycles of a table are.
 fn put_cycles<K: Sink>(text: &mut TextBuffer, sink: &mut K, mode: Mode, least: u64, most: u64)
     ensures { Adds K.held K.faults sink.old sink.new text.old text.new (accepted.cycles_line mode least most) }
@@ -190,52 +176,6 @@ fn put_delay<K: Sink>(text: &mut TextBuffer, sink: &mut K, mode: Mode, delay: u6
     put_tolerance_meaning(text, sink, mode);
 }
 
-/// Puts the senders of a table in columns, where they are asked for.
-fn put_rows<K: Sink>(
-    text: &mut TextBuffer,
-    sink: &mut K,
-    rows: bool,
-    mode: Mode,
-    table: &Table,
-    most: u64,
-)
-    ensures { Adds K.held K.faults sink.old sink.new text.old text.new (accepted.rows_text rows mode table.now most) }
-{
-    if rows {
-        put_senders(text, sink, mode, table, most);
-    } else {
-        text.put(sink, b"");
-    }
-}
-
-/// Writes what is said of an accepted table, with its senders or without.
-fn write_told<K: Sink>(
-    rows: bool,
-    table: &Table,
-    least: u64,
-    most: u64,
-    tolerance: Option<u64>,
-    advices: &[Advice],
-    sink: &mut K,
-) -> Result<(), WriteFault>
-    requires { accepted.IsAcceptedWith table.now least most }
-    ensures { WritesText K.held K.faults sink.old sink.new result (accepted.told_text rows table.now least most tolerance advices.now) }
-{
-    table_is_valid(table);
-    let mode = table.mode();
-    let spare = spare(table, least);
-    let load = load(table, most);
-    let mut text = TextBuffer::new();
-    put_first(&mut text, sink);
-    put_cycles(&mut text, sink, mode, least, most);
-    put_spare(&mut text, sink, mode, spare);
-    put_load(&mut text, sink, load);
-    put_rows(&mut text, sink, rows, mode, table, most);
-    put_tolerance(&mut text, sink, mode, tolerance);
-    put_start(&mut text, sink, mode, table, advices);
-    text.finish(sink)
-}
-
 /// Writes what is said of an accepted table: `least` and `most` are its verdict's, `tolerance` is the greatest delay that it bears, in
 /// bit times, or None where it bears every delay, and `advices` are those on it. It takes no memory.
 pub fn write_accepted<K: Sink>(
@@ -249,20 +189,24 @@ pub fn write_accepted<K: Sink>(
     requires { accepted.IsAcceptedWith table.now least most }
     ensures { WritesText K.held K.faults sink.old sink.new result (accepted.accepted_text table.now least most tolerance advices.now) }
 {
-    write_told(true, table, least, most, tolerance, advices, sink)
-}
-
-/// Writes the same without the senders of the table.
-pub fn write_briefly<K: Sink>(
-    table: &Table,
-    least: u64,
-    most: u64,
-    tolerance: Option<u64>,
-    advices: &[Advice],
-    sink: &mut K,
-) -> Result<(), WriteFault>
-    requires { accepted.IsAcceptedWith table.now least most }
-    ensures { WritesText K.held K.faults sink.old sink.new result (accepted.brief_text table.now least most tolerance advices.now) }
-{
-    write_told(false, table, least, most, tolerance, advices, sink)
+    table_is_valid(table);
+    let mode = table.mode();
+    let spare = spare(table, least);
+    let load = load(table, most);
+    let mut text = TextBuffer::new();
+    text.put(
+        sink,
+        b"The table is accepted: from a settled start, with no delay on the way and as many messages for each, ",
+    );
+    text.put(
+        sink,
+        b"its senders take turns and no two of them talk over each other.\n",
+    );
+    put_cycles(&mut text, sink, mode, least, most);
+    put_spare(&mut text, sink, mode, spare);
+    put_load(&mut text, sink, load);
+    put_senders(&mut text, sink, mode, table, most);
+    put_tolerance(&mut text, sink, mode, tolerance);
+    put_start(&mut text, sink, mode, table, advices);
+    text.finish(sink)
 }

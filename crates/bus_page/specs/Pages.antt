@@ -17,7 +17,7 @@ use Rattle.bus_regime.specs.Verdicts.{verdict_of}
 use Rattle.bus_regime.specs.declared.table_verdict.TableVerdict.{TableVerdict}
 use Rattle.bus_regime.specs.declared.table_verdict.TableVerdict.TheVariants.{Accept, ShortCycle, SmallGap, NoSync}
 use Rattle.bus_advice.specs.Advices.{advices_of, periodic_table}
-use Rattle.bus_explain.specs.Accepted.{brief_text}
+use Rattle.bus_explain.specs.Accepted.{accepted_text}
 use Rattle.bus_explain.specs.Refused.{refused_text}
 use Rattle.bus_explain.specs.Unread.{unread_text}
 use Rattle.bus_explain.specs.Wholes.{whole_text}
@@ -83,10 +83,10 @@ abbrev pub drifting_in : Mode → Table → List ℕ
 drifting_in Aperiodic table = []
 drifting_in Periodic table = drifting_text table
 
--- Its sentences, those of `explain`, without the line for each sender.
+-- Its sentences, those of `explain`.
 abbrev pub accepted_sentences : Table → (least most : ℕ) → List ℕ
 accepted_sentences table least most =
-    brief_text table least most (tolerance_of table) (advices_of table) ++ drifting_in table.mode table
+    accepted_text table least most (tolerance_of table) (advices_of table) ++ drifting_in table.mode table
 
 -- What `margins` writes of a table of this mode.
 abbrev pub margins_text : Mode → Bounds → Table → List ℕ

@@ -7,7 +7,7 @@ ghost use Rattle.bus_page.specs.Pages as definition;
 
 use crate::finding::Figures;
 use bus_bounds::Bounds;
-use bus_explain::write_briefly;
+use bus_explain::write_accepted;
 use bus_margins::write_aperiodic;
 use bus_margins_periodic::{write_drifting, write_periodic};
 use bus_outer::{Sink, TextBuffer, WriteFault};
@@ -34,7 +34,7 @@ pub(crate) fn write_sentences<K: Sink>(
     ensures { WritesText K.held K.faults sink.old sink.new result
         (definition.accepted_sentences table.now figures.now.least figures.now.most) }
 {
-    write_briefly(
+    write_accepted(
         table,
         figures.least,
         figures.most,
