@@ -16,6 +16,8 @@ mod judge;
 #[cfg(test)]
 mod line;
 #[cfg(test)]
+mod page;
+#[cfg(test)]
 mod paint;
 #[cfg(test)]
 mod periodic;
