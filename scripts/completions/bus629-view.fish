@@ -6,7 +6,8 @@ complete -c bus629-view -n 'test (count (commandline -opc)) -eq 1' -a timers -d 
 complete -c bus629-view -n 'test (count (commandline -opc)) -eq 1' -a gtkw -d 'the save file with which GTKWave shows all signals of any of these dumps'
 complete -c bus629-view -n 'test (count (commandline -opc)) -eq 1' -a svg -d 'the trace as a time line, with a lane for each terminal'
 complete -c bus629-view -n 'test (count (commandline -opc)) -eq 1' -a cycles -d 'a row for each cycle, for long traces'
+complete -c bus629-view -n 'test (count (commandline -opc)) -eq 1' -a page -d 'the page on the table in the file T, without any trace'
 complete -c bus629-view -n 'test (count (commandline -opc)) -eq 1' -a --help -d 'this text'
 complete -c bus629-view -n 'test (count (commandline -opc)) -eq 1' -a --version -d 'the version of the program, and of each text that it reads'
-complete -c bus629-view -n '__fish_seen_subcommand_from vcd wires timers gtkw svg cycles; and test (count (commandline -opc)) -eq 2' -F
+complete -c bus629-view -n '__fish_seen_subcommand_from vcd wires timers gtkw svg cycles page; and test (count (commandline -opc)) -eq 2' -F
 complete -c bus629-view -n '__fish_seen_subcommand_from vcd wires timers gtkw svg cycles; and test (count (commandline -opc)) -eq 3' -F

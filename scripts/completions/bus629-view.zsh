@@ -9,12 +9,13 @@ _bus629_view() {
     'gtkw:the save file with which GTKWave shows all signals of any of these dumps'
     'svg:the trace as a time line, with a lane for each terminal'
     'cycles:a row for each cycle, for long traces'
+    'page:the page on the table in the file T, without any trace'
     '--help:this text'
     '--version:the version of the program, and of each text that it reads'
   )
   case $CURRENT:$words[2] in
     2:*) _describe command commands ;;
-    3:vcd|3:wires|3:timers|3:gtkw|3:svg|3:cycles) _files ;;
+    3:vcd|3:wires|3:timers|3:gtkw|3:svg|3:cycles|3:page) _files ;;
     4:vcd|4:wires|4:timers|4:gtkw|4:svg|4:cycles) _files ;;
   esac
 }

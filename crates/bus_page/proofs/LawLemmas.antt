@@ -23,7 +23,7 @@ use Rattle.bus_explain.specs.Figures.{gap_bits, longest_bits}
 use Rattle.bus_explain.specs.Laws.{LoadIsOfLongestCycle, idle_in}
 use Rattle.bus_shapes.specs.declared.scale.Scale.{Scale}
 use Rattle.bus_shapes.specs.Scales.{IsScale, held, place}
-use Rattle.bus_page.specs.Laws.{CyclesAreTheVerdicts, SlotsFillTheInterval, WaitsAreLatencies, WidthsAreOfTheScale, last_end, slot_bits}
+use Rattle.bus_page.specs.Laws.{CyclesAreTheVerdicts, SlotsFillTheInterval, WaitsAreLatencies, WidthsAreOfTheScale, FollowOneAnother, TurnsFollowOneAnother, last_end, scaled, slot_bits}
 use Rattle.bus_page.specs.Slots.{slot_of}
 use Rattle.bus_page.specs.Turns.{Stretch, Turn, turns_from, turns_of}
 use Rattle.bus_page.proofs.AcceptLemmas.{cycles_of}
@@ -87,8 +87,9 @@ quotients a d s some =
     let less : rest / s < 2 = (div-lt_iff_lt-mul some).1 (omega (arith, left, right)) in
     (omega (arith, whole), omega (arith, whole, less))
 
-pub widths_are_of_the_scale : WidthsAreOfTheScale
-widths_are_of_the_scale scale a b is from rise to =
+places_are_apart : (scale : Scale) (a b : ℕ) → IsScale scale → scale.from ≤ a → a ≤ b → b ≤ scale.to
+    → (scaled scale (b - a) ≤ place scale b - place scale a) × (place scale b - place scale a ≤ scaled scale (b - a) + 1)
+places_are_apart scale a b is from rise to =
     let some : scale.from < scale.to = is.some in
     let width = scale.width in
     let span = scale.to - scale.from in
@@ -100,6 +101,23 @@ widths_are_of_the_scale scale a b is from rise to =
     let left : place scale a ≡ scale.left + (a - scale.from) * width / span = ap (λ n. scale.left + n * width / span) first in
     let right : place scale b ≡ scale.left + ((a - scale.from) * width + (b - a) * width) / span = ap (λ n. scale.left + n / span) split in
     (omega (arith, left, right, both.0), omega (arith, left, right, both.1))
+
+pub widths_are_of_the_scale : WidthsAreOfTheScale
+widths_are_of_the_scale scale a b top height is from rise to =
+    let apart = places_are_apart scale a b is from rise to in
+    (omega (arith, apart.0), omega (arith, apart.1))
+
+-- ---- turns
+short_follow : (short long : ℕ) (order : List Sender) → FollowOneAnother (λ turn. turn.short) short (turns_from short long order)
+short_follow short long [] = tt
+short_follow short long (s ∷ order) = (refl, short_follow (short + s.tg + shortest s) (long + s.tg + longest s) order)
+
+long_follow : (short long : ℕ) (order : List Sender) → FollowOneAnother (λ turn. turn.long) long (turns_from short long order)
+long_follow short long [] = tt
+long_follow short long (s ∷ order) = (refl, long_follow (short + s.tg + shortest s) (long + s.tg + longest s) order)
+
+pub turns_follow_one_another : TurnsFollowOneAnother
+turns_follow_one_another table = (short_follow table.sg table.sg (turn_order table), long_follow table.sg table.sg (turn_order table))
 
 -- ---- intervals
 -- the gaps and the messages behind them

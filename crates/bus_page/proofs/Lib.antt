@@ -7,3 +7,5 @@ mod LawLemmas
 mod CutLemmas
 mod PageLemmas
 mod SyncLemmas
+mod BarLemmas
+mod TagLemmas

@@ -92,10 +92,19 @@ picture_text tolerance limits =
     ++ bar_rows (bars_scale limits) tolerance limits
     ++ tolerance_mark (bars_scale limits) (length limits) tolerance ++ picture_end
 
--- The same, or that there are none.
+-- What its bars mean.
+abbrev pub legend_text : List ℕ
+legend_text =
+    codes "<p>The bar of a rule is the greatest delay that it alone bears, and the line through them what the table bears. "
+    ++ codes "Of a rule that bears every delay the bar has the full width.</p>\n"
+
+abbrev pub explained_text : Option ℕ → List Limit → List ℕ
+explained_text tolerance limits = legend_text ++ picture_text tolerance limits
+
+-- Both, or that there are none.
 abbrev pub told_text : (none : Bool) → Option ℕ → List Limit → List ℕ
 told_text true tolerance limits = codes "<p>None: one sender alone keeps its times, however long the cable is.</p>\n"
-told_text false tolerance limits = picture_text tolerance limits
+told_text false tolerance limits = explained_text tolerance limits
 
 -- What is told of the limits of a table with this tolerance.
 abbrev pub bars_text : Option ℕ → List Limit → List ℕ

@@ -45,9 +45,9 @@ abbrev pub join_text : Scale → Turn → List ℕ
 join_text scale turn =
     codes "<path class=\"join\" d=\"M" ++ upper_corners scale turn ++ codes "L" ++ lower_corners scale turn ++ codes "Z\"/>\n"
 
--- The spare: from the end of the transmit interval to that of the shortest cycle, behind both cycles.
+-- The spare: from the end of the transmit interval to that of the shortest cycle, above that.
 abbrev pub spare_area : Scale → (ti least : ℕ) → Area
-spare_area scale ti least = record { left = place scale ti; top = 270; width = place scale least - place scale ti; height = 1320 }
+spare_area scale ti least = record { left = place scale ti; top = 270; width = place scale least - place scale ti; height = 50 }
 
 abbrev pub spare_text : Scale → (ti least : ℕ) → List ℕ
 spare_text scale ti least = painted Spare (spare_area scale ti least) (codes "spare " ++ time_text (least - ti))
@@ -62,9 +62,9 @@ interval_text scale ti =
     plain Interval (record { left = place scale ti; top = 270; width = 15; height = 1320 })
     ++ number_words IntervalWords (place scale ti - 60) 900 (codes "TI ") ti
 
--- The words of the spare, of the synchronization gap, and of how much longer the longest cycle is.
+-- The words of the spare, before it; of the synchronization gap; and of how much longer the longest cycle is.
 abbrev pub spare_words : Scale → (ti least : ℕ) → List ℕ
-spare_words scale ti least = number_words Detail (place scale least) 1040 (codes "spare ") (least - ti)
+spare_words scale ti least = number_words IntervalWords (place scale ti - 60) 315 (codes "spare ") (least - ti)
 
 abbrev pub gap_words : Scale → ℕ → List ℕ
 gap_words scale sg = number_words GapWords (place scale 0) 770 (codes "SG ") sg

@@ -1,10 +1,9 @@
--- What a page ends with: the table's text, and what stands behind the page.
+-- What a page ends with: the text that was given, and what stands behind the page.
 --   program   what wrote it: its name and its version
---   bytes     the table's text as it was given
-use Rattle.std.specs.Prelude.{ℕ, ◌/◌, ◌%◌, List, ◌++◌, length, codes, decimal}
+--   bytes     the text as it was given
+use Rattle.std.specs.Prelude.{ℕ, ◌/◌, ◌%◌, ◌==◌, List, [], ◌∷◌, ◌++◌, length, codes, decimal, if◌then◌else◌}
+use Rattle.std.specs.List.{flat_map}
 use Rattle.bus_text.specs.Digits.{hexadecimal}
-use Rattle.bus_table.specs.Canonical.{table_text}
-use Rattle.bus_table.specs.Tables.{Table}
 use Rattle.bus_page.specs.Checksums.{checksum}
 use Rattle.bus_page.specs.Heads.{figure, section_text}
 
@@ -13,23 +12,33 @@ unfoldable pub premises_text : List ℕ
 premises_text =
     codes "<ul>\n<li>The rules are those of this project's profile of the bus: that it is the real bus is not proved.</li>\n"
     ++ codes "<li>Cycle, spare and load are without delays, from the settled start, and with as many messages for each sender.</li>\n"
-    ++ codes "<li>The tolerance is of exact clocks; the level is of clocks off by up to 50 millionths, and of nothing else inexact.</li>\n"
+    ++ codes "<li>The tolerance is of exact clocks; the level is of a bus within the bounds that stand with it.</li>\n"
     ++ codes "<li>Each sender keeps to its SEND lines, and nobody else sends.</li>\n</ul>\n"
 
 -- The same under its heading.
 abbrev pub resting_text : List ℕ
 resting_text = section_text (codes "What this rests on") ++ premises_text
 
--- The canonical text of the table.
-abbrev pub canonical_text : Table → List ℕ
-canonical_text table = section_text (codes "The table") ++ codes "<pre class=\"table\">" ++ table_text table ++ codes "</pre>\n"
+-- ---- the text that was given
+-- A byte of a text as HTML shows it: the three that mean something there are written by their names.
+abbrev pub shown : ℕ → List ℕ
+shown byte =
+    if byte == 38 then codes "&amp;" else (if byte == 60 then codes "&lt;" else (if byte == 62 then codes "&gt;" else byte ∷ []))
+
+-- All of them.
+abbrev pub shown_text : List ℕ → List ℕ
+shown_text bytes = flat_map shown bytes
+
+-- The text under its heading.
+abbrev pub given_text : List ℕ → List ℕ
+given_text bytes = section_text (codes "The text of the table") ++ codes "<pre class=\"table\">" ++ shown_text bytes ++ codes "</pre>\n"
 
 -- ---- what stands behind the page
 abbrev pub program_figure : (program : List ℕ) → List ℕ
 program_figure program = figure (codes "written by") program
 
 abbrev pub length_figure : (bytes : List ℕ) → List ℕ
-length_figure bytes = figure (codes "length of the table's file") (decimal (length bytes) ++ codes " bytes")
+length_figure bytes = figure (codes "length of the text") (decimal (length bytes) ++ codes " bytes")
 
 -- A number in eight hexadecimal digits.
 abbrev pub eight_digits : ℕ → List ℕ
@@ -38,13 +47,19 @@ eight_digits n = hexadecimal 4 (n / 65536) ++ hexadecimal 4 (n % 65536)
 abbrev pub checksum_figure : (bytes : List ℕ) → List ℕ
 checksum_figure bytes = figure (codes "CRC-32 of its bytes") (eight_digits (checksum bytes))
 
+-- What can't be known of the program that wrote the page, and who says it.
+unfoldable pub build_text : List ℕ
+build_text =
+    codes "<p>That a page is exactly the text defined of its table is proved of the sources of this program. Neither that the program\n"
+    ++ codes "was built of them nor by which version of its kit, Rattle, can a page tell: in the project's folder <code>./bus629-view</code>\n"
+    ++ codes "says on standard error where it runs a quick build, of which nothing is proved.</p>\n"
+
 -- All of it.
 abbrev pub source_text : (program bytes : List ℕ) → List ℕ
 source_text program bytes =
     section_text (codes "What stands behind this page") ++ codes "<dl>\n" ++ program_figure program ++ length_figure bytes
-    ++ checksum_figure bytes ++ codes "</dl>\n"
+    ++ checksum_figure bytes ++ codes "</dl>\n" ++ build_text
 
 -- The end of a page, behind the sentences.
-abbrev pub foot_text : (program bytes : List ℕ) → Table → List ℕ
-foot_text program bytes table =
-    codes "</pre>\n" ++ canonical_text table ++ source_text program bytes ++ codes "</body>\n</html>\n"
+abbrev pub foot_text : (program bytes : List ℕ) → List ℕ
+foot_text program bytes = codes "</pre>\n" ++ given_text bytes ++ source_text program bytes ++ codes "</body>\n</html>\n"

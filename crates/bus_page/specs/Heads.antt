@@ -1,6 +1,6 @@
 -- What a page begins with: the verdict in words, and the figures of an accepted table.
 --   least, most   the verdict's
-use Rattle.std.specs.Prelude.{ℕ, Bool, true, false, List, ◌++◌, codes, Option, Some, None}
+use Rattle.std.specs.Prelude.{ℕ, Bool, true, false, List, ◌++◌, codes, decimal, Option, Some, None, unwrap_or}
 use Rattle.bus_strings.specs.Shares.{share_text}
 use Rattle.bus_table.specs.declared.mode.Mode.{Mode}
 use Rattle.bus_table.specs.declared.mode.Mode.TheVariants.{Aperiodic, Periodic}
@@ -9,6 +9,7 @@ use Rattle.bus_regime.specs.declared.table_verdict.TableVerdict.{TableVerdict}
 use Rattle.bus_regime.specs.Lines.{verdict_words}
 use Rattle.bus_explain.specs.Figures.{load, spare}
 use Rattle.bus_explain.specs.Times.{time_text}
+use Rattle.bus_bounds.specs.Bounds.{Bounds}
 use Rattle.bus_margins.specs.declared.level.Level.{Level as AperiodicLevel}
 use Rattle.bus_margins.specs.declared.level.Level.TheVariants as aperiodic_levels
 use Rattle.bus_margins.specs.Rooms as aperiodic_rooms
@@ -18,17 +19,29 @@ use Rattle.bus_margins_periodic.specs.Margins as periodic_margins
 use Rattle.bus_margins_periodic.specs.Sentences.{drifting}
 use Rattle.bus_page.specs.Styles.{style_text}
 
--- Up to the body: the title is the verdict line.
-abbrev pub head_text : TableVerdict → List ℕ
-head_text verdict =
+-- Up to the words of the title, and behind them up to the body.
+abbrev pub head_front : List ℕ
+head_front =
     codes "<!doctype html>\n<html lang=\"en\">\n<head>\n<meta charset=\"utf-8\">\n"
     ++ codes "<meta name=\"viewport\" content=\"width=device-width\">\n<title>"
-    ++ verdict_words verdict ++ codes "</title>\n" ++ style_text ++ codes "</head>\n<body>\n"
 
--- The heading of a table that is accepted, or isn't.
+abbrev pub head_end : List ℕ
+head_end = codes "</title>\n" ++ style_text ++ codes "</head>\n<body>\n"
+
+-- Up to the body: the title is the verdict line, or that there is no table.
+abbrev pub head_text : TableVerdict → List ℕ
+head_text verdict = head_front ++ verdict_words verdict ++ head_end
+
+abbrev pub bare_head_text : List ℕ
+bare_head_text = head_front ++ codes "No valid table" ++ head_end
+
+-- The heading of a table that is accepted, of one that isn't, and of a text that gives none.
 abbrev pub heading_text : Bool → List ℕ
 heading_text true = codes "<h1>The table is accepted</h1>\n"
 heading_text false = codes "<h1 class=\"refused\">The table is refused</h1>\n"
+
+abbrev pub bare_heading_text : List ℕ
+bare_heading_text = codes "<h1 class=\"refused\">The text gives no valid table</h1>\n"
 
 -- The verdict line.
 abbrev pub verdict_text : TableVerdict → List ℕ
@@ -77,10 +90,20 @@ periodic_words periodic_levels.Turns = codes "turns: all take turns for ever"
 periodic_words periodic_levels.Leads = codes "leads: all take turns for ever behind the first sender"
 periodic_words periodic_levels.Neither = codes "none: nothing is told"
 
--- The level of a table of this mode where oscillators are off by up to 50 millionths and nothing else is inexact.
-abbrev pub level_words : Mode → Table → List ℕ
-level_words Aperiodic table = aperiodic_words (aperiodic_rooms.level_of drifting table)
-level_words Periodic table = periodic_words (periodic_margins.level_of drifting table)
+-- The bounds that are asked for; where none are, oscillators are off by up to 50 millionths, and nothing else is inexact.
+abbrev pub bounds_of : Option Bounds → Bounds
+bounds_of asked = unwrap_or asked drifting
+
+-- The level of a table of this mode within bounds.
+abbrev pub level_words : Mode → Bounds → Table → List ℕ
+level_words Aperiodic bounds table = aperiodic_words (aperiodic_rooms.level_of bounds table)
+level_words Periodic bounds table = periodic_words (periodic_margins.level_of bounds table)
+
+-- Within which bounds.
+abbrev pub level_name : Bounds → List ℕ
+level_name bounds =
+    codes "level, with " ++ decimal bounds.delay ++ codes " ns of delay, " ++ decimal bounds.jitter
+    ++ codes " ns of jitter, and clocks " ++ decimal bounds.clocks ++ codes " millionths off"
 
 -- Each figure.
 abbrev pub cycle_figure : Mode → (least most : ℕ) → List ℕ
@@ -95,11 +118,11 @@ load_figure load = figure (codes "load") (share_text load)
 abbrev pub tolerance_figure : Option ℕ → List ℕ
 tolerance_figure tolerance = figure (codes "tolerance of delays") (tolerance_words tolerance)
 
-abbrev pub level_figure : Table → List ℕ
-level_figure table = figure (codes "level, with clocks 50 millionths off") (level_words table.mode table)
+abbrev pub level_figure : Bounds → Table → List ℕ
+level_figure bounds table = figure (level_name bounds) (level_words table.mode bounds table)
 
 -- The figures of an accepted table.
-abbrev pub figures_text : Table → (least most : ℕ) → Option ℕ → List ℕ
-figures_text table least most tolerance =
+abbrev pub figures_text : Bounds → Table → (least most : ℕ) → Option ℕ → List ℕ
+figures_text bounds table least most tolerance =
     codes "<dl>\n" ++ cycle_figure table.mode least most ++ spare_figure (spare table least) ++ load_figure (load table most)
-    ++ tolerance_figure tolerance ++ level_figure table ++ codes "</dl>\n"
+    ++ tolerance_figure tolerance ++ level_figure bounds table ++ codes "</dl>\n"

@@ -11,6 +11,7 @@ pub mod Cycles
 pub mod Slots
 pub mod Intervals
 pub mod Bars
+pub mod Rooms
 pub mod Waits
 pub mod Latencies
 pub mod Feet

@@ -2,7 +2,7 @@
 use Rattle.std.specs.Prelude.{ℕ, List, ◌++◌, codes, decimal}
 use Rattle.bus_shapes.specs.declared.area.Area.{Area}
 pub use Rattle.bus_page.specs.declared.paint.Paint.{Paint}
-pub use Rattle.bus_page.specs.declared.paint.Paint.TheVariants.{Sent, Gap, Synchronizes, Interval, Spare, Bears, Limits, Wait, Tolerance}
+pub use Rattle.bus_page.specs.declared.paint.Paint.TheVariants.{Sent, Gap, Synchronizes, Interval, Spare, Bears, Limits, Wait, Tolerance, Need}
 
 -- What a box is called, by which the style finds it.
 abbrev pub paint_name : Paint → List ℕ
@@ -15,6 +15,7 @@ paint_name Bears = codes "bears"
 paint_name Limits = codes "limits"
 paint_name Wait = codes "wait"
 paint_name Tolerance = codes "tolerance"
+paint_name Need = codes "need"
 
 -- A box up to its width: what it is, and its left upper corner.
 abbrev pub paint_corner : Paint → Area → List ℕ

@@ -1,15 +1,15 @@
 -- How the page looks: one style, in which each colour has a name, and its value in a light and in a dark scheme.
 use Rattle.std.specs.Prelude.{ℕ, List, ◌++◌, codes}
 
--- The colours of both schemes. Boxes of messages, gaps and bars have a contrast of at least 3 to the ground and of 1.5 to one another where
--- they touch, words one of at least 4.5 to what is behind them; the spare and the joins are tints.
+-- The colours of both schemes. `scripts/contrasts` computes that words have a contrast of at least 4.5 to what is behind them, boxes of at
+-- least 3, and boxes of different kinds that touch one of 1.5 to one another; the joins are tints.
 unfoldable pub colours_text : List ℕ
 colours_text =
     codes ":root{color-scheme:light dark;--ground:#fff;--words:#222;--small:#555;--grid:#d5d8dd;--sent:#00588f;\n"
-    ++ codes "--join:#d9e8f4;--gap:#a06c00;--gap-words:#7a5200;--ti:#00694d;--spare:#bfe8d8;--synchronizes:#3a9b7c;\n"
-    ++ codes "--bears:#6b7480;--limits:#a63a00;--wait:#868e99}\n"
+    ++ codes "--join:#d9e8f4;--gap:#a06c00;--gap-words:#7a5200;--ti:#00694d;--spare:#2f8f70;--synchronizes:#3a9b7c;\n"
+    ++ codes "--bears:#808894;--limits:#a63a00;--wait:#868e99}\n"
     ++ codes "@media(prefers-color-scheme:dark){:root{--ground:#14171b;--words:#e6e8eb;--small:#aab2bd;--grid:#333a43;\n"
-    ++ codes "--sent:#2a78b4;--join:#17344a;--gap:#e0a030;--gap-words:#e8b75a;--ti:#5fd6b0;--spare:#164a3b;\n"
+    ++ codes "--sent:#2a78b4;--join:#12293a;--gap:#e0a030;--gap-words:#e8b75a;--ti:#5fd6b0;--spare:#45b58d;\n"
     ++ codes "--synchronizes:#45b58d;--bears:#7d8794;--limits:#e8741e;--wait:#b0bac6}}\n"
 
 -- The looks of the words and tables of the page.
@@ -33,10 +33,10 @@ shapes_text =
     ++ codes ".number,.digits{text-anchor:middle}.digits{fill:#fff}.answer{font-weight:bold;fill:var(--limits)}\n"
     ++ codes ".gap-words{font-size:100px;fill:var(--gap-words)}.interval-words{font-size:100px;fill:var(--ti)}\n"
     ++ codes ".tick{fill:var(--small)}.grid{fill:var(--grid)}.sent{fill:var(--sent)}.join{fill:var(--join)}\n"
-    ++ codes ".gap{fill:var(--gap)}.ti,.tolerance{fill:var(--ti)}.spare{fill:var(--spare)}\n"
+    ++ codes ".gap{fill:var(--gap)}.ti{fill:var(--ti)}.tolerance,.need{fill:var(--words)}.spare{fill:var(--spare)}\n"
     ++ codes ".synchronizes{fill:var(--synchronizes)}.bears{fill:var(--bears)}.limits{fill:var(--limits)}\n"
     ++ codes ".wait{fill:var(--wait)}@media print{body{margin:0;max-width:none;font-size:11px}h2{break-after:avoid}\n"
-    ++ codes "svg,tr,li{break-inside:avoid}}\n"
+    ++ codes "svg,tr,li{break-inside:avoid}}@page{size:A4;margin:12mm}\n"
 
 -- The style.
 abbrev pub style_text : List ℕ

@@ -55,3 +55,9 @@ abbrev pub waits_text : (most : ℕ) → List Sender → List ℕ
 waits_text most senders =
     picture_front (rows_top + row_height * length senders) (codes "How long data wait")
     ++ sender_rows (waits_scale most (greatest_message senders)) most (greatest_message senders) senders ++ picture_end
+
+-- What its bars mean.
+abbrev pub waits_legend : List ℕ
+waits_legend =
+    codes "<p>Grey: from a start of the terminal to its next one, at most. Behind it its longest message, in another colour where no "
+    ++ codes "terminal has a longer one.</p>\n"

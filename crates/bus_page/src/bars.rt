@@ -55,14 +55,14 @@ fn is_least(tolerance: Option<u64>, bears: Option<u64>) -> bool
 }
 
 /// How the bar of a rule looks that limits what the table bears, or doesn't.
-fn paint_of(limits: bool) -> Paint
+pub(crate) fn paint_of(limits: bool) -> Paint
     ensures { result ≡ definition.paint_of limits }
 {
     if limits { Paint::Limits } else { Paint::Bears }
 }
 
 /// How the words of a rule look that limits what the table bears, or doesn't.
-fn words_class(limits: bool) -> Class
+pub(crate) fn words_class(limits: bool) -> Class
     ensures { result ≡ definition.words_class limits }
 {
     if limits { Class::Answer } else { Class::Note }
@@ -217,7 +217,35 @@ fn put_picture<K: Sink>(
     end_picture(text, sink);
 }
 
-/// Puts the picture, or that there are no limits.
+/// Puts what its bars mean.
+fn put_legend<K: Sink>(text: &mut TextBuffer, sink: &mut K)
+    ensures { Adds K.held K.faults sink.old sink.new text.old text.new definition.legend_text }
+{
+    text.put(
+        sink,
+        b"<p>The bar of a rule is the greatest delay that it alone bears, and the line through them what the table bears. ",
+    );
+    text.put(
+        sink,
+        b"Of a rule that bears every delay the bar has the full width.</p>\n",
+    );
+}
+
+/// Puts that, and the picture.
+fn put_explained<K: Sink>(
+    text: &mut TextBuffer,
+    sink: &mut K,
+    tolerance: Option<u64>,
+    limits: &[Limit],
+)
+    requires { length limits.now ≤ 1000 }
+    ensures { Adds K.held K.faults sink.old sink.new text.old text.new (definition.explained_text tolerance limits.now) }
+{
+    put_legend(text, sink);
+    put_picture(text, sink, tolerance, limits);
+}
+
+/// Puts both, or that there are no limits.
 fn put_told<K: Sink>(
     text: &mut TextBuffer,
     sink: &mut K,
@@ -234,7 +262,7 @@ fn put_told<K: Sink>(
             b"<p>None: one sender alone keeps its times, however long the cable is.</p>\n",
         );
     } else {
-        put_picture(text, sink, tolerance, limits);
+        put_explained(text, sink, tolerance, limits);
     }
 }
 

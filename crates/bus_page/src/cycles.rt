@@ -133,7 +133,7 @@ fn spare_area(scale: &Scale, ti: u64, least: u64) -> Area
         left,
         top: 270,
         width: scale.place(least).saturating_sub(left),
-        height: 1320,
+        height: 50,
     }
 }
 
@@ -197,12 +197,21 @@ fn put_more<K: Sink>(text: &mut TextBuffer, sink: &mut K, scale: &Scale, least: 
 
 /// Puts the words of the spare.
 fn put_spare_words<K: Sink>(text: &mut TextBuffer, sink: &mut K, scale: &Scale, ti: u64, least: u64)
-    requires { IsScale scale.now }
+    requires scale { IsScale scale.now }
+    requires behind { 1500 ≤ scale.now.left }
     ensures { Adds K.held K.faults sink.old sink.new text.old text.new (definition.spare_words scale.now ti least) }
 {
-    let left = scale.place(least);
+    let right = scale.place(ti) - 60;
     let spare = least.saturating_sub(ti);
-    put_number_words(text, sink, Class::Detail, left, 1040, b"spare ", spare);
+    put_number_words(
+        text,
+        sink,
+        Class::IntervalWords,
+        right,
+        315,
+        b"spare ",
+        spare,
+    );
 }
 
 /// Puts the words of the synchronization gap.
@@ -265,7 +274,8 @@ fn put_long_lane<K: Sink>(
 
 /// Puts the words between the cycles.
 fn put_marks<K: Sink>(text: &mut TextBuffer, sink: &mut K, scale: &Scale, times: Times)
-    requires { IsScale scale.now }
+    requires scale { IsScale scale.now }
+    requires behind { 1500 ≤ scale.now.left }
     ensures { Adds K.held K.faults sink.old sink.new text.old text.new (definition.marks_text scale.now times) }
 {
     put_spare_words(text, sink, scale, times.ti, times.least);

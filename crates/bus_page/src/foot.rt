@@ -1,4 +1,4 @@
-//! What a page ends with: the table's text, and what stands behind the page.
+//! What a page ends with: the text that was given, and what stands behind the page.
 ghost use Rattle.std.specs.Prelude.{◌≡◌, ◌<◌};
 ghost use Rattle.bus_outer.specs.Texts.{Adds};
 ghost use Rattle.bus_outer.specs.Sinks.{WritesText};
@@ -7,7 +7,6 @@ ghost use Rattle.bus_page.specs.Feet as definition;
 use crate::checksum::checksum;
 use crate::heading::{begin_figure, end_figure, put_section};
 use bus_outer::{Sink, TextBuffer, WriteFault};
-use bus_table::{Table, put_table};
 use bus_text::four_digits;
 
 /// On what the sentences of an accepted table rest.
@@ -17,7 +16,7 @@ fn premises() -> &'static [u8]
     b"<ul>
 <li>The rules are those of this project's profile of the bus: that it is the real bus is not proved.</li>
 <li>Cycle, spare and load are without delays, from the settled start, and with as many messages for each sender.</li>
-<li>The tolerance is of exact clocks; the level is of clocks off by up to 50 millionths, and of nothing else inexact.</li>
+<li>The tolerance is of exact clocks; the level is of a bus within the bounds that stand with it.</li>
 <li>Each sender keeps to its SEND lines, and nobody else sends.</li>
 </ul>
 "
@@ -31,13 +30,37 @@ pub(crate) fn put_premises<K: Sink>(text: &mut TextBuffer, sink: &mut K)
     text.put(sink, premises());
 }
 
-/// Puts the canonical text of a table.
-fn put_canonical<K: Sink>(text: &mut TextBuffer, sink: &mut K, table: &Table)
-    ensures { Adds K.held K.faults sink.old sink.new text.old text.new (definition.canonical_text table.now) }
+/// Puts a byte of a text as HTML shows it.
+fn put_shown<K: Sink>(text: &mut TextBuffer, sink: &mut K, byte: u8)
+    ensures { Adds K.held K.faults sink.old sink.new text.old text.new (definition.shown byte) }
 {
-    put_section(text, sink, b"The table");
+    if byte == b'&' {
+        text.put(sink, b"&amp;");
+    } else if byte == b'<' {
+        text.put(sink, b"&lt;");
+    } else if byte == b'>' {
+        text.put(sink, b"&gt;");
+    } else {
+        text.put_byte(sink, byte);
+    }
+}
+
+/// Puts all bytes of a text so.
+fn put_shown_text<K: Sink>(text: &mut TextBuffer, sink: &mut K, bytes: &[u8])
+    ensures { Adds K.held K.faults sink.old sink.new text.old text.new (definition.shown_text bytes.now) }
+{
+    for byte in bytes {
+        put_shown(text, sink, *byte);
+    }
+}
+
+/// Puts the text that was given.
+fn put_given<K: Sink>(text: &mut TextBuffer, sink: &mut K, bytes: &[u8])
+    ensures { Adds K.held K.faults sink.old sink.new text.old text.new (definition.given_text bytes.now) }
+{
+    put_section(text, sink, b"The text of the table");
     text.put(sink, b"<pre class=\"table\">");
-    put_table(text, sink, table);
+    put_shown_text(text, sink, bytes);
     text.put(sink, b"</pre>\n");
 }
 
@@ -58,11 +81,11 @@ fn put_program<K: Sink>(text: &mut TextBuffer, sink: &mut K, program: &[u8])
     end_figure(text, sink);
 }
 
-/// Puts how long the table's file is.
+/// Puts how long the text is.
 fn put_length<K: Sink>(text: &mut TextBuffer, sink: &mut K, bytes: &[u8])
     ensures { Adds K.held K.faults sink.old sink.new text.old text.new (definition.length_figure bytes.now) }
 {
-    begin_figure(text, sink, b"length of the table's file");
+    begin_figure(text, sink, b"length of the text");
     text.put_number(sink, bytes.len());
     text.put(sink, b" bytes");
     end_figure(text, sink);
@@ -77,6 +100,16 @@ fn put_checksum<K: Sink>(text: &mut TextBuffer, sink: &mut K, bytes: &[u8])
     end_figure(text, sink);
 }
 
+/// What can't be known of the program that wrote a page, and who says it.
+fn build() -> &'static [u8]
+    ensures { result.now ≡ definition.build_text }
+{
+    b"<p>That a page is exactly the text defined of its table is proved of the sources of this program. Neither that the program
+was built of them nor by which version of its kit, Rattle, can a page tell: in the project's folder <code>./bus629-view</code>
+says on standard error where it runs a quick build, of which nothing is proved.</p>
+"
+}
+
 /// Puts what stands behind a page.
 fn put_source<K: Sink>(text: &mut TextBuffer, sink: &mut K, program: &[u8], bytes: &[u8])
     ensures { Adds K.held K.faults sink.old sink.new text.old text.new (definition.source_text program.now bytes.now) }
@@ -87,20 +120,20 @@ fn put_source<K: Sink>(text: &mut TextBuffer, sink: &mut K, program: &[u8], byte
     put_length(text, sink, bytes);
     put_checksum(text, sink, bytes);
     text.put(sink, b"</dl>\n");
+    text.put(sink, build());
 }
 
 /// Writes the end of a page, behind the sentences.
 pub(crate) fn write_foot<K: Sink>(
     program: &[u8],
     bytes: &[u8],
-    table: &Table,
     sink: &mut K,
 ) -> Result<(), WriteFault>
-    ensures { WritesText K.held K.faults sink.old sink.new result (definition.foot_text program.now bytes.now table.now) }
+    ensures { WritesText K.held K.faults sink.old sink.new result (definition.foot_text program.now bytes.now) }
 {
     let mut text = TextBuffer::new();
     text.put(sink, b"</pre>\n");
-    put_canonical(&mut text, sink, table);
+    put_given(&mut text, sink, bytes);
     put_source(&mut text, sink, program, bytes);
     text.put(sink, b"</body>\n</html>\n");
     text.finish(sink)

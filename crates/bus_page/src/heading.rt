@@ -15,9 +15,9 @@ use bus_regime::{TableVerdict, put_verdict};
 use bus_strings::put_share;
 use bus_table::{Mode, Table};
 
-/// Puts all up to the body.
-pub(crate) fn put_head<K: Sink>(text: &mut TextBuffer, sink: &mut K, verdict: &TableVerdict)
-    ensures { Adds K.held K.faults sink.old sink.new text.old text.new (definition.head_text verdict.now) }
+/// Puts all up to the words of the title.
+fn begin_head<K: Sink>(text: &mut TextBuffer, sink: &mut K)
+    ensures { Adds K.held K.faults sink.old sink.new text.old text.new definition.head_front }
 {
     text.put(
         sink,
@@ -27,10 +27,43 @@ pub(crate) fn put_head<K: Sink>(text: &mut TextBuffer, sink: &mut K, verdict: &T
         sink,
         b"<meta name=\"viewport\" content=\"width=device-width\">\n<title>",
     );
-    put_verdict(text, sink, verdict);
+}
+
+/// Puts all behind them up to the body.
+fn end_head<K: Sink>(text: &mut TextBuffer, sink: &mut K)
+    ensures { Adds K.held K.faults sink.old sink.new text.old text.new definition.head_end }
+{
     text.put(sink, b"</title>\n");
     put_style(text, sink);
     text.put(sink, b"</head>\n<body>\n");
+}
+
+/// Puts all up to the body of the page of a table.
+pub(crate) fn put_head<K: Sink>(text: &mut TextBuffer, sink: &mut K, verdict: &TableVerdict)
+    ensures { Adds K.held K.faults sink.old sink.new text.old text.new (definition.head_text verdict.now) }
+{
+    begin_head(text, sink);
+    put_verdict(text, sink, verdict);
+    end_head(text, sink);
+}
+
+/// Puts the same of a text that gives no table.
+pub(crate) fn put_bare_head<K: Sink>(text: &mut TextBuffer, sink: &mut K)
+    ensures { Adds K.held K.faults sink.old sink.new text.old text.new definition.bare_head_text }
+{
+    begin_head(text, sink);
+    text.put(sink, b"No valid table");
+    end_head(text, sink);
+}
+
+/// Puts the heading of a text that gives no table.
+pub(crate) fn put_bare_heading<K: Sink>(text: &mut TextBuffer, sink: &mut K)
+    ensures { Adds K.held K.faults sink.old sink.new text.old text.new definition.bare_heading_text }
+{
+    text.put(
+        sink,
+        b"<h1 class=\"refused\">The text gives no valid table</h1>\n",
+    );
 }
 
 /// Puts the heading of a table that is accepted, or isn't.
@@ -139,15 +172,37 @@ fn periodic_words(level: PeriodicLevel) -> &'static [u8]
     }
 }
 
-/// The words of the level of a table on clocks that drift.
-fn level_words(table: &Table) -> &'static [u8]
-    ensures { result.now ≡ definition.level_words table.now.mode table.now }
+/// The bounds that are asked for; where none are, oscillators are off by up to 50 millionths, and nothing else is inexact.
+pub(crate) fn bounds_of(asked: Option<Bounds>) -> Bounds
+    ensures { result ≡ definition.bounds_of asked }
 {
-    let bounds = drift();
+    match asked {
+        Some(bounds) => bounds,
+        None => drift(),
+    }
+}
+
+/// The words of the level of a table within bounds.
+fn level_words(table: &Table, bounds: Bounds) -> &'static [u8]
+    ensures { result.now ≡ definition.level_words table.now.mode bounds table.now }
+{
     match table.mode() {
         Mode::Aperiodic => aperiodic_words(bus_margins::level_of(table, bounds)),
         Mode::Periodic => periodic_words(bus_margins_periodic::level_of(table, bounds)),
     }
+}
+
+/// Puts within which bounds a level is.
+fn put_level_name<K: Sink>(text: &mut TextBuffer, sink: &mut K, bounds: Bounds)
+    ensures { Adds K.held K.faults sink.old sink.new text.old text.new (definition.level_name bounds) }
+{
+    text.put(sink, b"level, with ");
+    text.put_number(sink, bounds.delay());
+    text.put(sink, b" ns of delay, ");
+    text.put_number(sink, bounds.jitter());
+    text.put(sink, b" ns of jitter, and clocks ");
+    text.put_number(sink, bounds.clocks());
+    text.put(sink, b" millionths off");
 }
 
 /// Puts the figure of the cycle of a table with these numbers.
@@ -187,11 +242,13 @@ fn put_tolerance_figure<K: Sink>(text: &mut TextBuffer, sink: &mut K, tolerance:
 }
 
 /// Puts the figure of the level.
-fn put_level_figure<K: Sink>(text: &mut TextBuffer, sink: &mut K, table: &Table)
-    ensures { Adds K.held K.faults sink.old sink.new text.old text.new (definition.level_figure table.now) }
+fn put_level_figure<K: Sink>(text: &mut TextBuffer, sink: &mut K, table: &Table, bounds: Bounds)
+    ensures { Adds K.held K.faults sink.old sink.new text.old text.new (definition.level_figure bounds table.now) }
 {
-    begin_figure(text, sink, b"level, with clocks 50 millionths off");
-    text.put(sink, level_words(table));
+    text.put(sink, b"<div><dt>");
+    put_level_name(text, sink, bounds);
+    text.put(sink, b"</dt><dd>");
+    text.put(sink, level_words(table, bounds));
     end_figure(text, sink);
 }
 
@@ -200,13 +257,14 @@ pub(crate) fn put_figures<K: Sink>(
     text: &mut TextBuffer,
     sink: &mut K,
     table: &Table,
+    bounds: Bounds,
     least: u64,
     most: u64,
     tolerance: Option<u64>,
 )
     requires least { HasLeast table.now least }
     requires most { 0 < most }
-    ensures { Adds K.held K.faults sink.old sink.new text.old text.new (definition.figures_text table.now least most tolerance) }
+    ensures { Adds K.held K.faults sink.old sink.new text.old text.new (definition.figures_text bounds table.now least most tolerance) }
 {
     let spare = spare(table, least);
     let load = load(table, most);
@@ -215,6 +273,6 @@ pub(crate) fn put_figures<K: Sink>(
     put_spare_figure(text, sink, spare);
     put_load_figure(text, sink, load);
     put_tolerance_figure(text, sink, tolerance);
-    put_level_figure(text, sink, table);
+    put_level_figure(text, sink, table, bounds);
     text.put(sink, b"</dl>\n");
 }

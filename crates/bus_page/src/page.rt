@@ -1,22 +1,26 @@
-//! The whole page of a table.
+//! The page of a table.
 ghost use Rattle.std.specs.Prelude.{◌≡◌, ◌++◌};
 ghost use Rattle.bus_outer.specs.Sinks.{WritesText};
 ghost use Rattle.bus_outer.specs.Texts.{Adds};
-ghost use Rattle.bus_page.specs.Findings.{AreFigures, AreFindings, IsRefusalOf};
+ghost use Rattle.bus_page.specs.Findings.{AreFigures, AreFindings};
 ghost use Rattle.bus_page.specs.Feet.{foot_text};
 ghost use Rattle.bus_page.specs.Pages as definition;
 
 use crate::bars::put_bars;
 use crate::cycles::{Times, put_cycles};
-use crate::finding::{Figures, Findings, Refusal};
+use crate::finding::{Figures, Findings};
 use crate::foot::{put_premises, write_foot};
-use crate::heading::{put_figures, put_head, put_heading, put_section, put_verdict_line};
+use crate::heading::{
+    bounds_of, put_figures, put_head, put_heading, put_section, put_verdict_line,
+};
 use crate::interval::put_interval;
 use crate::latencies::put_latencies;
+use crate::refused::write_refused_page;
+use crate::rooms::put_rooms;
+use crate::sentences::{write_asked, write_sentences};
 use crate::slot::begin_of;
-use crate::waits::put_waits;
-use bus_explain::{write_accepted, write_refused};
-use bus_margins_periodic::write_drifting;
+use crate::waits::{put_waits, put_waits_legend};
+use bus_bounds::Bounds;
 use bus_outer::{Sink, TextBuffer, WriteFault};
 use bus_table::laws::table_is_valid;
 use bus_table::{Mode, Table};
@@ -87,6 +91,7 @@ fn put_waiting<K: Sink>(text: &mut TextBuffer, sink: &mut K, table: &Table, figu
         sink,
         b"How long data wait: those that just miss a start, until their message is sent, without delays",
     );
+    put_waits_legend(text, sink);
     put_waits(text, sink, figures.most, table.senders());
 }
 
@@ -105,13 +110,20 @@ fn put_ages<K: Sink>(text: &mut TextBuffer, sink: &mut K, table: &Table, figures
 }
 
 /// Puts all pictures of an accepted table.
-fn put_pictures<K: Sink>(text: &mut TextBuffer, sink: &mut K, table: &Table, figures: &Figures)
+fn put_pictures<K: Sink>(
+    text: &mut TextBuffer,
+    sink: &mut K,
+    table: &Table,
+    asked: Option<Bounds>,
+    figures: &Figures,
+)
     requires { AreFigures table.now figures.now }
     ensures { Adds K.held K.faults sink.old sink.new text.old text.new
-        (definition.pictures_text table.now figures.now.least figures.now.most) }
+        (definition.pictures_text asked table.now figures.now.least figures.now.most) }
 {
     put_cycle_picture(text, sink, table, figures);
     put_limits(text, sink, table, figures);
+    put_rooms(text, sink, table, asked);
     put_waiting(text, sink, table, figures);
     put_ages(text, sink, table, figures);
 }
@@ -119,12 +131,13 @@ fn put_pictures<K: Sink>(text: &mut TextBuffer, sink: &mut K, table: &Table, fig
 /// Writes what stands before the sentences of an accepted table.
 fn write_accepted_front<K: Sink>(
     table: &Table,
+    asked: Option<Bounds>,
     figures: &Figures,
     sink: &mut K,
 ) -> Result<(), WriteFault>
     requires { AreFigures table.now figures.now }
     ensures { WritesText K.held K.faults sink.old sink.new result
-        (definition.accepted_front table.now figures.now.least figures.now.most) }
+        (definition.accepted_front asked table.now figures.now.least figures.now.most) }
 {
     table_is_valid(table);
     let mut text = TextBuffer::new();
@@ -135,64 +148,49 @@ fn write_accepted_front<K: Sink>(
         &mut text,
         sink,
         table,
+        bounds_of(asked),
         figures.least,
         figures.most,
         figures.tolerance,
     );
-    put_pictures(&mut text, sink, table, figures);
+    put_pictures(&mut text, sink, table, asked, figures);
     put_premises(&mut text, sink);
     put_section(&mut text, sink, b"What it means");
     text.put(sink, b"<pre>");
     text.finish(sink)
 }
 
-/// Writes what is said of an accepted table of this mode where clocks are off.
-fn write_drift<K: Sink>(mode: Mode, table: &Table, sink: &mut K) -> Result<(), WriteFault>
-    requires { mode ≡ table.now.mode }
-    ensures { WritesText K.held K.faults sink.old sink.new result (definition.drifting_in mode table.now) }
-{
-    match mode {
-        Mode::Aperiodic => Ok(()),
-        Mode::Periodic => write_drifting(table, sink),
-    }
-}
-
-/// Writes the sentences of an accepted table.
-fn write_sentences<K: Sink>(
-    table: &Table,
-    figures: &Figures,
-    sink: &mut K,
-) -> Result<(), WriteFault>
-    requires { AreFigures table.now figures.now }
-    ensures { WritesText K.held K.faults sink.old sink.new result
-        (definition.accepted_sentences table.now figures.now.least figures.now.most) }
-{
-    write_accepted(
-        table,
-        figures.least,
-        figures.most,
-        figures.tolerance,
-        &figures.advices,
-        sink,
-    )?;
-    write_drift(table.mode(), table, sink)
-}
-
-/// Writes the sentences of an accepted table, and the end of its page.
+/// Writes what `margins` tells where bounds are asked for, and the end of the page.
 fn write_accepted_end<K: Sink>(
     program: &[u8],
     bytes: &[u8],
     table: &Table,
+    asked: Option<Bounds>,
+    sink: &mut K,
+) -> Result<(), WriteFault>
+    ensures { WritesText K.held K.faults sink.old sink.new result
+        (definition.asked_text asked table.now ++ foot_text program.now bytes.now) }
+{
+    write_asked(table, asked, sink)?;
+    write_foot(program, bytes, sink)
+}
+
+/// Writes the sentences of an accepted table, and all behind them.
+fn write_accepted_rest<K: Sink>(
+    program: &[u8],
+    bytes: &[u8],
+    table: &Table,
+    asked: Option<Bounds>,
     figures: &Figures,
     sink: &mut K,
 ) -> Result<(), WriteFault>
     requires { AreFigures table.now figures.now }
     ensures { WritesText K.held K.faults sink.old sink.new result
         (definition.accepted_sentences table.now figures.now.least figures.now.most
-        ++ foot_text program.now bytes.now table.now) }
+        ++ (definition.asked_text asked table.now ++ foot_text program.now bytes.now)) }
 {
     write_sentences(table, figures, sink)?;
-    write_foot(program, bytes, table, sink)
+    write_accepted_end(program, bytes, table, asked, sink)
 }
 
 /// Writes the page of an accepted table.
@@ -200,79 +198,38 @@ fn write_accepted_page<K: Sink>(
     program: &[u8],
     bytes: &[u8],
     table: &Table,
+    asked: Option<Bounds>,
     figures: &Figures,
     sink: &mut K,
 ) -> Result<(), WriteFault>
     requires { AreFigures table.now figures.now }
     ensures { WritesText K.held K.faults sink.old sink.new result
-        (definition.accepted_page program.now bytes.now table.now figures.now.least figures.now.most) }
+        (definition.accepted_page program.now bytes.now asked table.now figures.now.least figures.now.most) }
 {
-    write_accepted_front(table, figures, sink)?;
-    write_accepted_end(program, bytes, table, figures, sink)
-}
-
-/// Writes what stands before the sentences of a refused table.
-fn write_refused_front<K: Sink>(refusal: &Refusal, sink: &mut K) -> Result<(), WriteFault>
-    ensures { WritesText K.held K.faults sink.old sink.new result (definition.refused_front refusal.now.verdict) }
-{
-    let mut text = TextBuffer::new();
-    put_head(&mut text, sink, &refusal.verdict);
-    put_heading(&mut text, sink, false);
-    put_verdict_line(&mut text, sink, &refusal.verdict);
-    put_section(&mut text, sink, b"Why, and what to change");
-    text.put(sink, b"<pre>");
-    text.finish(sink)
-}
-
-/// Writes the sentences of a refused table, and the end of its page.
-fn write_refused_end<K: Sink>(
-    program: &[u8],
-    bytes: &[u8],
-    table: &Table,
-    refusal: &Refusal,
-    sink: &mut K,
-) -> Result<(), WriteFault>
-    requires { IsRefusalOf table.now refusal.now }
-    ensures { WritesText K.held K.faults sink.old sink.new result
-        (definition.refused_end program.now bytes.now refusal.now.verdict table.now) }
-{
-    write_refused(&refusal.verdict, &refusal.advices, &refusal.planned, sink)?;
-    write_foot(program, bytes, table, sink)
-}
-
-/// Writes the page of a refused table.
-fn write_refused_page<K: Sink>(
-    program: &[u8],
-    bytes: &[u8],
-    table: &Table,
-    refusal: &Refusal,
-    sink: &mut K,
-) -> Result<(), WriteFault>
-    requires { IsRefusalOf table.now refusal.now }
-    ensures { WritesText K.held K.faults sink.old sink.new result
-        (definition.refused_page program.now bytes.now refusal.now.verdict table.now) }
-{
-    write_refused_front(refusal, sink)?;
-    write_refused_end(program, bytes, table, refusal, sink)
+    write_accepted_front(table, asked, figures, sink)?;
+    write_accepted_rest(program, bytes, table, asked, figures, sink)
 }
 
 /// Writes the page of a table: one HTML text that needs nothing else. `program` is what writes it, with its version, as it is to stand in
-/// HTML; `bytes` are those of the table's text as it was given, of which the page tells the length and the checksum; and `findings` are
-/// what [`find`](crate::find) tells of the table. It takes no memory.
+/// HTML; `bytes` are those of the table's text as it was given; `asked` are the bounds within which its margins are told, where some are;
+/// and `findings` are what [`find`](crate::find) tells of the table. It takes no memory.
 ///
 /// At `WriteFault` the sink has taken a front of the text, and its count of faults rose.
 pub fn write_page<K: Sink>(
     program: &[u8],
     bytes: &[u8],
     table: &Table,
+    asked: Option<Bounds>,
     findings: &Findings,
     sink: &mut K,
 ) -> Result<(), WriteFault>
     requires { AreFindings table.now findings.now }
-    ensures { WritesText K.held K.faults sink.old sink.new result (definition.page_text program.now bytes.now table.now) }
+    ensures { WritesText K.held K.faults sink.old sink.new result (definition.table_page program.now bytes.now asked table.now) }
 {
     match findings {
-        Findings::Accepted(figures) => write_accepted_page(program, bytes, table, figures, sink),
+        Findings::Accepted(figures) => {
+            write_accepted_page(program, bytes, table, asked, figures, sink)
+        }
         Findings::Refused(refusal) => write_refused_page(program, bytes, table, refusal, sink),
     }
 }

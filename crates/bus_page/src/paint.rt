@@ -27,6 +27,8 @@ pub enum Paint {
     Wait,
     /// The tolerance of a table.
     Tolerance,
+    /// What a rule needs.
+    Need,
 }
 
 impl Paint {
@@ -44,6 +46,7 @@ impl Paint {
             Paint::Limits => b"limits",
             Paint::Wait => b"wait",
             Paint::Tolerance => b"tolerance",
+            Paint::Need => b"need",
         }
     }
 }

@@ -10,10 +10,10 @@ fn colours() -> &'static [u8]
     ensures { result.now ≡ definition.colours_text }
 {
     b":root{color-scheme:light dark;--ground:#fff;--words:#222;--small:#555;--grid:#d5d8dd;--sent:#00588f;
---join:#d9e8f4;--gap:#a06c00;--gap-words:#7a5200;--ti:#00694d;--spare:#bfe8d8;--synchronizes:#3a9b7c;
---bears:#6b7480;--limits:#a63a00;--wait:#868e99}
+--join:#d9e8f4;--gap:#a06c00;--gap-words:#7a5200;--ti:#00694d;--spare:#2f8f70;--synchronizes:#3a9b7c;
+--bears:#808894;--limits:#a63a00;--wait:#868e99}
 @media(prefers-color-scheme:dark){:root{--ground:#14171b;--words:#e6e8eb;--small:#aab2bd;--grid:#333a43;
---sent:#2a78b4;--join:#17344a;--gap:#e0a030;--gap-words:#e8b75a;--ti:#5fd6b0;--spare:#164a3b;
+--sent:#2a78b4;--join:#12293a;--gap:#e0a030;--gap-words:#e8b75a;--ti:#5fd6b0;--spare:#45b58d;
 --synchronizes:#45b58d;--bears:#7d8794;--limits:#e8741e;--wait:#b0bac6}}
 "
 }
@@ -43,10 +43,10 @@ fn shapes() -> &'static [u8]
 .number,.digits{text-anchor:middle}.digits{fill:#fff}.answer{font-weight:bold;fill:var(--limits)}
 .gap-words{font-size:100px;fill:var(--gap-words)}.interval-words{font-size:100px;fill:var(--ti)}
 .tick{fill:var(--small)}.grid{fill:var(--grid)}.sent{fill:var(--sent)}.join{fill:var(--join)}
-.gap{fill:var(--gap)}.ti,.tolerance{fill:var(--ti)}.spare{fill:var(--spare)}
+.gap{fill:var(--gap)}.ti{fill:var(--ti)}.tolerance,.need{fill:var(--words)}.spare{fill:var(--spare)}
 .synchronizes{fill:var(--synchronizes)}.bears{fill:var(--bears)}.limits{fill:var(--limits)}
 .wait{fill:var(--wait)}@media print{body{margin:0;max-width:none;font-size:11px}h2{break-after:avoid}
-svg,tr,li{break-inside:avoid}}
+svg,tr,li{break-inside:avoid}}@page{size:A4;margin:12mm}
 "
 }
 

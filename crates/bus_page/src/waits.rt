@@ -186,3 +186,14 @@ pub(crate) fn put_waits<K: Sink>(text: &mut TextBuffer, sink: &mut K, most: u64,
     put_rows(text, sink, &scale, most, greatest, senders);
     end_picture(text, sink);
 }
+
+/// Puts what its bars mean.
+pub(crate) fn put_waits_legend<K: Sink>(text: &mut TextBuffer, sink: &mut K)
+    ensures { Adds K.held K.faults sink.old sink.new text.old text.new definition.waits_legend }
+{
+    text.put(
+        sink,
+        b"<p>Grey: from a start of the terminal to its next one, at most. Behind it its longest message, in another colour where no ",
+    );
+    text.put(sink, b"terminal has a longer one.</p>\n");
+}

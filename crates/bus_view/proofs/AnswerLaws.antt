@@ -2,6 +2,7 @@
 use Rattle.std.specs.Prelude.{◌≡◌, ℕ, ◌≤◌, List, Option, Some, None, Result, Ok, Err}
 use Rattle.std.proofs.Common.{arith, refl, sym, ap, ◌∙◌, subst, inl, inr}
 use Rattle.bus_dump.specs.Doubled.{doubled}
+use Rattle.bus_view.proofs.PageLaws.{page_cause}
 use Rattle.bus_command.specs.Causes.{RefusesTexts}
 use Rattle.bus_command.specs.Due.{traced_due, any_trace, outcome_with}
 use Rattle.bus_command.specs.Kinds.{kind_of, stage_of}
@@ -13,7 +14,7 @@ use Rattle.bus_command.proofs.ReadLemmas.{CauseLaws, table_cause, table_valid, t
 use Rattle.bus_view.specs.Acts.{view_program, IsDoubledAt}
 use Rattle.bus_command.specs.Causes.{AreTracedWith}
 use Rattle.bus_view.specs.Due.{single_outcome, view_answer, traced_answer, IsOfView, IsView}
-use Rattle.bus_view.specs.Forms.{OnTrace, OnItself, View, Dump, SaveFile, Painted, Judged}
+use Rattle.bus_view.specs.Forms.{OnTrace, OnItself, Page, View, Dump, SaveFile, Painted, Judged}
 use Rattle.bus_view.specs.Refusals.{Doubled, Outcome}
 
 single_late : (entry : Option ℕ) → 2 ≤ stage_of (kind_of (single_outcome entry))
@@ -71,3 +72,4 @@ due_cause laws view first second o (Err r) e h = subst (λ o. RefusesTexts Cause
 pub due_has_cause : CauseLaws → DueHasCause view_program
 due_has_cause laws (OnTrace view) first second o h = due_cause laws view first second o (traced_due first second) refl h
 due_has_cause laws (OnItself about) first second o h = subst (λ o. RefusesTexts Causes o first second) h tt
+due_has_cause laws (Page asked) first second o h = page_cause first second o h

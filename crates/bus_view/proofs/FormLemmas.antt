@@ -1,10 +1,10 @@
 -- The words of a form.
-use Rattle.std.specs.Prelude.{◌≡◌, ◌≢◌, List, [], ◌∷◌, length, slice_index_or, String, None}
+use Rattle.std.specs.Prelude.{◌≡◌, ◌≢◌, List, [], ◌∷◌, length, slice_index_or, String, Some, None}
 use Rattle.std.specs.declared.alloc.Global.{Global}
 use Rattle.std.specs.String.{string_bytes}
 use Rattle.std.proofs.Common.{arith, refl, sym, ap}
 use Rattle.bus_command.specs.Words.{words_of}
-use Rattle.bus_view.specs.Forms.{one_word, three_words, five_words, six_words, eight_words, on_trace, view_of, form_of}
+use Rattle.bus_view.specs.Forms.{Page, one_word, three_words, five_words, six_words, eight_words, view_of, page_within, page_of, asked_by, form_of}
 
 pub form_of_one : (words : List (String Global)) (a : String Global) → length words ≡ 1 → a ≡ slice_index_or words 0 a
     → form_of (words_of words) ≡ one_word (string_bytes a)
@@ -12,10 +12,42 @@ form_of_one [] a h i = absurd (omega arith)
 form_of_one (p ∷ []) a h i = ap (λ word. one_word (string_bytes word)) (sym i)
 form_of_one (p ∷ q ∷ rest) a h i = absurd (omega arith)
 
-pub form_of_view : (words : List (String Global)) → length words ≢ 1 → form_of (words_of words) ≡ on_trace (view_of (words_of words))
-form_of_view [] h = refl
-form_of_view (p ∷ []) h = absurd (h refl)
-form_of_view (p ∷ q ∷ rest) h = refl
+pub form_of_more : (words : List (String Global)) (a : String Global) → length words ≢ 0 → length words ≢ 1 → a ≡ slice_index_or words 0 a
+    → form_of (words_of words) ≡ asked_by (string_bytes a) (words_of words)
+form_of_more [] a n h i = absurd (n refl)
+form_of_more (p ∷ []) a n h i = absurd (h refl)
+form_of_more (p ∷ q ∷ rest) a n h i = ap (λ word. asked_by (string_bytes word) (words_of (p ∷ q ∷ rest))) (sym i)
+
+pub form_of_none : (words : List (String Global)) → length words ≡ 0 → form_of (words_of words) ≡ None
+form_of_none [] h = refl
+form_of_none (p ∷ rest) h = absurd (omega arith)
+
+-- the words of a page
+pub page_of_two : (words : List (String Global)) → length words ≡ 2 → page_of (words_of words) ≡ Some (Page None)
+page_of_two [] h = absurd (omega arith)
+page_of_two (p ∷ []) h = absurd (omega arith)
+page_of_two (p ∷ q ∷ []) h = refl
+page_of_two (p ∷ q ∷ r ∷ rest) h = absurd (omega arith)
+
+pub page_of_five : (words : List (String Global)) (c d e : String Global) → length words ≡ 5 → c ≡ slice_index_or words 2 c
+    → d ≡ slice_index_or words 3 d → e ≡ slice_index_or words 4 e
+    → page_of (words_of words) ≡ page_within (string_bytes c) (string_bytes d) (string_bytes e)
+page_of_five [] c d e h i j k = absurd (omega arith)
+page_of_five (p ∷ []) c d e h i j k = absurd (omega arith)
+page_of_five (p ∷ q ∷ []) c d e h i j k = absurd (omega arith)
+page_of_five (p ∷ q ∷ r ∷ []) c d e h i j k = absurd (omega arith)
+page_of_five (p ∷ q ∷ r ∷ s ∷ []) c d e h i j k = absurd (omega arith)
+page_of_five (p ∷ q ∷ r ∷ s ∷ t ∷ []) c d e h i j k = (let f : c ≡ r = i in let g : d ≡ s = j in let l : e ≡ t = k in cc)
+page_of_five (p ∷ q ∷ r ∷ s ∷ t ∷ u ∷ rest) c d e h i j k = absurd (omega arith)
+
+pub page_of_other : (words : List (String Global)) → length words ≢ 2 → length words ≢ 5 → page_of (words_of words) ≡ None
+page_of_other [] h k = refl
+page_of_other (p ∷ []) h k = refl
+page_of_other (p ∷ q ∷ []) h k = absurd (h refl)
+page_of_other (p ∷ q ∷ r ∷ []) h k = refl
+page_of_other (p ∷ q ∷ r ∷ s ∷ []) h k = refl
+page_of_other (p ∷ q ∷ r ∷ s ∷ t ∷ []) h k = absurd (k refl)
+page_of_other (p ∷ q ∷ r ∷ s ∷ t ∷ u ∷ rest) h k = refl
 
 pub view_of_three : (words : List (String Global)) (a : String Global) → length words ≡ 3 → a ≡ slice_index_or words 0 a
     → view_of (words_of words) ≡ three_words (string_bytes a)

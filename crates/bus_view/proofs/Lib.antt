@@ -3,5 +3,6 @@ pub mod FormLemmas
 pub mod WindowLemmas
 pub mod PaintLemmas
 pub mod SaveLemmas
+pub mod PageLaws
 pub mod AnswerLaws
 pub mod ViewClaims

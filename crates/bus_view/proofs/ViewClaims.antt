@@ -1,13 +1,14 @@
 -- What is claimed of the views.
-use Rattle.std.specs.Prelude.{◌≡◌, ℕ, List, [], ◌∷◌, codes, Option, Some, None, IfSome, Ok}
-use Rattle.std.proofs.Common.{refl, sym, ap, ◌∙◌, subst}
+use Rattle.std.specs.Prelude.{◌≡◌, ℕ, ◌&&◌, List, [], ◌∷◌, codes, Option, Some, None, IfSome, Ok}
+use Rattle.std.proofs.Common.{cond, refl, sym, ap, ◌∙◌, subst}
 use Rattle.bus_table.specs.Tables.{Table}
 use Rattle.bus_trace.specs.TraceLaws.{ReadsBack}
 use Rattle.bus_trace.specs.Traces.{Recording}
 use Rattle.std.specs.Option.{option_and_then}
-use Rattle.bus_bounds.specs.Bounds.{Bounds}
-use Rattle.bus_command.specs.Bounding.{AreNear}
-use Rattle.bus_command.proofs.BoundingLaws.{near_written}
+use Rattle.bus_bounds.specs.Bounds.{Bounds, most_delay, most_jitter, most_clocks}
+use Rattle.bus_text.specs.Numbers.{decimal_value}
+use Rattle.bus_command.specs.Bounding.{AreNear, bounds_of, is_within}
+use Rattle.bus_command.proofs.BoundingLaws.{bounds_with, near_written, within_is}
 use Rattle.bus_trace.specs.Windows.{Window, IsWindow}
 use Rattle.bus_dump.specs.declared.dump.Dump.{Dump as AnyDump}
 use Rattle.bus_dump.specs.declared.dump.Dump.TheVariants.{Vcd, Wires, Timers}
@@ -19,20 +20,23 @@ use Rattle.bus_command.specs.declared.about.About.{About}
 use Rattle.bus_command.specs.declared.about.About.TheVariants.{Help, Version}
 use Rattle.bus_command.specs.About.{TellsItself, IsAbout, about_word}
 use Rattle.bus_command.specs.Claims.{Answers}
-use Rattle.bus_command.specs.Due.{table_refusal_of, with_trace, traced_due, any_trace}
+use Rattle.bus_command.specs.Stages.{refusal_in}
+use Rattle.bus_command.specs.Due.{text_due, table_refusal_of, with_trace, traced_due, any_trace}
 use Rattle.bus_command.specs.Kinds.{Answer, kind_of}
 use Rattle.bus_command.specs.Outside.{Call}
 use Rattle.bus_command.specs.declared.status.Status.TheVariants as status
 use Rattle.bus_command.specs.declared.outcome.Outcome.TheVariants.{Done}
-use Rattle.bus_command.specs.Readers.{Trace, entire, no_source, by_trace}
-use Rattle.bus_command.proofs.ClaimLemmas.{answers, claimed, refuses, does_of, room_of, told_itself, at_two, stands_told}
+use Rattle.bus_command.specs.Readers.{Trace, entire, no_source, one_source, by_trace, text_limit}
+use Rattle.bus_command.proofs.ClaimLemmas.{answers, claimed, refuses, does_of, room_of, told_itself, at_one, at_two, stands_told}
 use Rattle.bus_command.proofs.LawTypes.{TextReadsAsItsTable}
 use Rattle.bus_command.proofs.ReadLemmas.{held_trace, traced_told}
+use Rattle.bus_command.proofs.TextLemmas.{short_text}
 use Rattle.bus_command.proofs.ToldLemmas.{table_told}
 use Rattle.bus_view.specs.Acts.{view_program, Acts}
-use Rattle.bus_view.specs.Claims.{view_word, AreFurther, AreForWindow, AreOfBounds, IsViewOf, GivesDump, Promises}
-use Rattle.bus_view.specs.Due.{first_breach, single_outcome, traced_answer, view_answer, drawing, painting, window_or_whole, IsJudging, IsOfView, IsView}
-use Rattle.bus_view.specs.Forms.{OnTrace, OnItself, on_trace, View, Dump, SaveFile, Painted, Judged, Picture, TimeLine, Cycles, drawn, judged, three_words, view_of, window_of, form_of}
+use Rattle.bus_view.specs.Claims.{view_word, AreFurther, AreForWindow, AreForAsked, AreOfAsked, AreOfBounds, IsPageOf, IsViewOf, GivesDump, Promises}
+use Rattle.bus_view.specs.Due.{first_breach, single_outcome, traced_answer, view_answer, drawing, painting, window_or_whole, IsJudging, IsOfView, IsPage, IsView, page, page_answer}
+use Rattle.bus_view.proofs.PageLaws.{page_answers}
+use Rattle.bus_view.specs.Forms.{Form, OnTrace, OnItself, Page, page_of, page_within, on_trace, View, Dump, SaveFile, Painted, Judged, Picture, TimeLine, Cycles, drawn, judged, three_words, view_of, window_of, form_of}
 use Rattle.bus_view.specs.Itself.{itself_text}
 use Rattle.bus_view.specs.Refusals.{Doubled, Outcome, ends_of, status_of}
 
@@ -152,6 +156,34 @@ judge_claim : DrawLaws → (call : Call) (outcome : Outcome) (picture : Picture)
 judge_claim laws call outcome picture bounds window table trace n s acts h =
     shown laws (Judged picture bounds window) call outcome table trace acts h (n, s) refl
 
+-- ---- pages
+-- the plain decimals of bounds are these
+bounds_written : (bounds : Bounds) (further : List (List ℕ)) (w : AreOfAsked bounds further)
+    → page_within w.delay w.jitter w.clocks ≡ Some (Page (Some bounds))
+bounds_written bounds further w =
+    let some : Bounds → Option Form = λ b. Some (Page (Some b)) in
+    let given = bounds_of w.delay w.jitter w.clocks in
+    ap (λ b. cond (b && (is_within most_jitter w.jitter && is_within most_clocks w.clocks)) (some given) None)
+    (within_is most_delay bounds.delay w.delay w.delay_is w.within.delay)
+    ∙ ap (λ b. cond (b && is_within most_clocks w.clocks) (some given) None) (within_is most_jitter bounds.jitter w.jitter w.jitter_is w.within.jitter)
+    ∙ ap (λ b. cond b (some given) None) (within_is most_clocks bounds.clocks w.clocks w.clocks_is w.within.clocks)
+    ∙ ap (λ n. some (bounds_with n (decimal_value w.jitter) (decimal_value w.clocks))) w.delay_is.value
+    ∙ ap (λ n. some (bounds_with bounds.delay n (decimal_value w.clocks))) w.jitter_is.value
+    ∙ ap (λ n. some (bounds_with bounds.delay bounds.jitter n)) w.clocks_is.value
+
+page_words : (asked : Option Bounds) (path : List ℕ) (further : List (List ℕ)) → AreForAsked asked further
+    → page_of (codes "page" ∷ path ∷ further) ≡ Some (Page asked)
+page_words None path further w = ap (λ f. page_of (codes "page" ∷ path ∷ f)) w
+page_words (Some bounds) path further w = ap (λ f. page_of (codes "page" ∷ path ∷ f)) w.form ∙ bounds_written bounds further w
+
+page_claim : (call : Call) (outcome : Outcome) (asked : Option Bounds) (text : List ℕ) → Acts call outcome → IsPageOf asked text call
+    → Answers (status_of (page_answer text)) (λ written. written ≡ page asked text) call (status_of outcome)
+page_claim call outcome asked text acts h =
+    claimed ends_of page_answer (IsPage asked) (one_source entire) (λ first. refusal_in (text_due 1 first)) (λ a b. text_due 1 a)
+    text [] text (λ written. written ≡ page asked text) call outcome (at_one entire call.before.sources text h.told)
+    (short_text {R = Doubled} text_limit 1 text h.short) (page_answers text) (λ written is. is)
+    (does_of view_program call outcome (Page asked) (ap form_of h.form ∙ page_words asked h.path h.further h.further_are) acts) h.undisturbed
+
 itself_form : (about : About) (words : List (List ℕ)) → words ≡ about_word about ∷ [] → form_of words ≡ Some (OnItself about)
 itself_form Help words h = ap form_of h
 itself_form Version words h = ap form_of h
@@ -172,5 +204,6 @@ keeps laws call outcome acts = record {
   save = λ table trace h. shown laws SaveFile call outcome table trace acts h tt refl;
   paint = λ picture window table trace s h. paint_claim laws call outcome picture window table trace s acts h;
   judge = λ picture bounds window table trace n s h. judge_claim laws call outcome picture bounds window table trace n s acts h;
+  page = λ asked text h. page_claim call outcome asked text acts h;
   itself = λ about h. itself_claim call outcome about acts h;
 }

@@ -1,6 +1,6 @@
--- What is claimed of the forms that draw, in the words of their texts.
-use Rattle.std.specs.Prelude.{◌≡◌, ℕ, IsTrue, List, [], ◌∷◌, codes, Option, Some, None, IfSome}
-use Rattle.bus_bounds.specs.Bounds.{Bounds}
+-- What is claimed of the forms, in the words of their texts.
+use Rattle.std.specs.Prelude.{◌≡◌, ℕ, ◌≤◌, IsTrue, List, [], ◌∷◌, length, codes, Option, Some, None, IfSome}
+use Rattle.bus_bounds.specs.Bounds.{Bounds, AreBounds}
 use Rattle.bus_command.specs.Bounding.{AreNear}
 use Rattle.bus_trace.specs.Windows.{Window, IsWindow}
 use Rattle.bus_text.specs.Numbers.{IsDecimal}
@@ -20,10 +20,12 @@ use Rattle.bus_command.specs.declared.status.Status.{Status}
 use Rattle.bus_command.specs.declared.status.Status.TheVariants.{Done, InputRefused}
 use Rattle.bus_command.specs.declared.about.About.{About}
 use Rattle.bus_command.specs.About.{IsAbout, TellsItself}
-use Rattle.bus_command.specs.Claims.{Answers, IsOfTraced, Refuses}
+use Rattle.bus_command.specs.Claims.{Answers, IsOfTraced, NothingFails, Refuses}
 use Rattle.bus_command.specs.Outside.{Call}
+use Rattle.bus_command.specs.Readers.{entire, one_source, text_limit}
 use Rattle.bus_view.specs.Itself.{itself_text}
-use Rattle.bus_view.specs.Due.{IsJudging, drawing, first_breach, painting, saved, window_or_whole}
+use Rattle.bus_view.specs.Due.{IsJudging, drawing, first_breach, page, page_answer, painting, saved, window_or_whole}
+use Rattle.bus_view.specs.Refusals.{status_of}
 use Rattle.bus_view.specs.Forms.{View, Dump, SaveFile, Painted, Judged, Picture, TimeLine, Cycles}
 
 -- The command of a picture.
@@ -96,12 +98,39 @@ pub record GivesDump (dump : AnyDump) (window : Window) (table : Table) (trace :
   pub clear : (hands : List Hand) (t : ℕ) → IsTrue (is_accepted (verdict_of table)) → IsTrue (are_even table hands)
       → trace.list ≡ closed table hands → ShowsNoOverlap dump (first_breach table trace) table trace.list t
 
+-- The words of bounds, where some are asked for.
+pub record AreOfAsked (bounds : Bounds) (words : List (List ℕ)) : Type 0 where
+  pub delay : List ℕ
+  pub jitter : List ℕ
+  pub clocks : List ℕ
+  pub form : words ≡ delay ∷ jitter ∷ clocks ∷ []
+  pub delay_is : IsDecimal delay bounds.delay
+  pub jitter_is : IsDecimal jitter bounds.jitter
+  pub clocks_is : IsDecimal clocks bounds.clocks
+  pub within : AreBounds bounds
+
+abbrev pub AreForAsked : Option Bounds → List (List ℕ) → Type 0
+AreForAsked None words = words ≡ []
+AreForAsked (Some bounds) words = AreOfAsked bounds words
+
+-- A call of `page T` or of `page T D J P` whose first source tells this text, within its limit, whether it is one of a table or not, and in
+-- which nothing outside fails.
+pub record IsPageOf (asked : Option Bounds) (text : List ℕ) (call : Call) : Type 0 where
+  pub path : List ℕ
+  pub further : List (List ℕ)
+  pub form : call.words ≡ codes "page" ∷ path ∷ further
+  pub further_are : AreForAsked asked further
+  pub told : call.before.sources.first.bytes ≡ Some text
+  pub short : length text ≤ text_limit
+  pub undisturbed : NothingFails (one_source entire) call.before call.after
+
 -- What a call promises whose texts are right and in which nothing outside fails; each view answers so, or memory was refused,
 -- of which `itself` takes none:
 --   draw    `vcd`, `wires` and `timers`, and all three with a window: the dump, or that an entry is doubled
 --   save    `gtkw`: the save file, with its marker at the first breach
 --   paint   `svg` and `cycles`, and both with a window: the picture
 --   judge   `svg` and `cycles` with bounds, and both with a window too: the picture with what is found
+--   page    `page` of any text, and with bounds: its page; the status is Done where the text gives a table that is accepted, else Refused
 --   itself  `--help` and `--version`: the help and the version line
 pub record Promises (call : Call) (status : Status) : Type 0 where
   pub draw : (dump : AnyDump) (window : Option Window) (table : Table) (trace : Recording) → IfSome window IsWindow
@@ -115,4 +144,6 @@ pub record Promises (call : Call) (status : Status) : Type 0 where
   pub judge : (picture : Picture) (bounds : Bounds) (window : Option Window) (table : Table) (trace : Recording) → AreNear bounds
       → IfSome window IsWindow → IsViewOf (Judged picture bounds window) table trace call
       → Answers Done (IsJudging picture bounds (window_or_whole window trace) table trace) call status
+  pub page : (asked : Option Bounds) (text : List ℕ) → IsPageOf asked text call
+      → Answers (status_of (page_answer text)) (λ written. written ≡ page asked text) call status
   pub itself : (about : About) → IsAbout about call → TellsItself (itself_text about) call status

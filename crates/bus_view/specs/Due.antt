@@ -1,12 +1,14 @@
 -- What is due for given words and texts: the outcome, where nothing outside fails and memory is granted, and the text of an answer.
-use Rattle.std.specs.Prelude.{◌≡◌, ℕ, List, Option, Some, None, Vec, unwrap_or}
+use Rattle.std.specs.Prelude.{◌≡◌, ℕ, Bool, true, false, List, Option, Some, None, Result, Ok, Err, Vec, unwrap_or}
 use Rattle.std.specs.declared.alloc.Global.{Global}
 use Rattle.bus_bounds.specs.Bounds.{Bounds}
 use Rattle.bus_findings.specs.declared.judgement.Judgement.{Judgement}
 use Rattle.bus_findings.specs.Judging.{judgements}
+use Rattle.bus_table.specs.declared.error.TableError.{TableError}
+use Rattle.bus_table.specs.Reading.{answer_of as table_answer}
 use Rattle.bus_table.specs.Tables.{Table}
 use Rattle.bus_regime.specs.Lines.{verdict_words}
-use Rattle.bus_regime.specs.Verdicts.{verdict_of}
+use Rattle.bus_regime.specs.Verdicts.{is_accepted, verdict_of}
 use Rattle.bus_regime.specs.declared.table_verdict.TableVerdict.{TableVerdict}
 use Rattle.bus_trace.specs.Traces.{Recording}
 use Rattle.bus_audit.specs.Breaches.{answer_of}
@@ -22,10 +24,12 @@ use Rattle.bus_trace.specs.Windows.{Window, whole}
 use Rattle.bus_picture.specs.TimeLines.{time_line_text}
 use Rattle.bus_cycles.specs.CyclesTexts.{cycles_text}
 use Rattle.bus_command.specs.declared.inputs.Traced.{Traced}
-use Rattle.bus_command.specs.declared.outcome.Outcome.TheVariants.{Done}
-use Rattle.bus_command.specs.Due.{table_refusal_of, traced_due, outcome_with, IsTextOf}
-use Rattle.bus_view.specs.Itself.{itself_text}
-use Rattle.bus_view.specs.Forms.{Form, OnTrace, OnItself, View, Dump, SaveFile, Painted, Judged, Picture, TimeLine, Cycles}
+use Rattle.bus_command.specs.declared.outcome.Outcome.TheVariants.{Answered, Done}
+use Rattle.bus_command.specs.Due.{table_refusal_of, text_due, traced_due, outcome_with, IsTextOf}
+use Rattle.bus_command.specs.Stages.{refusal_in}
+use Rattle.bus_page.specs.Pages.{page_text}
+use Rattle.bus_view.specs.Itself.{itself_text, version_text}
+use Rattle.bus_view.specs.Forms.{Form, OnTrace, OnItself, Page, View, Dump, SaveFile, Painted, Judged, Picture, TimeLine, Cycles}
 use Rattle.bus_view.specs.Refusals.{Outcome, refuse}
 
 -- A trace of which no entry is doubled is answered, another refused.
@@ -100,17 +104,44 @@ IsView view traced text = IsOfView view traced.table traced.trace text
 abbrev pub IsViewText : View → List ℕ → List ℕ → List ℕ → Type 0
 IsViewText view first second text = IsTextOf (traced_answer view) (IsView view) (traced_due first second) text
 
+-- ---- pages
+-- Yes where a table is accepted, else no.
+abbrev pub accepted_outcome : Bool → Outcome
+accepted_outcome true = Done
+accepted_outcome false = Answered
+
+-- Yes where a text gives a table that is accepted, else no.
+abbrev pub text_outcome : Result Table TableError → Outcome
+text_outcome (Ok table) = accepted_outcome (is_accepted (verdict_of table))
+text_outcome (Err error) = Answered
+
+-- What is answered to a text, whether it is one of a table or not.
+abbrev pub page_answer : List ℕ → Outcome
+page_answer text = text_outcome (table_answer text)
+
+-- The page of a text, with its margins within the bounds that are asked for, where some are: it tells the version line as what wrote it.
+abbrev pub page : Option Bounds → List ℕ → List ℕ
+page asked text = page_text version_text text asked
+
+-- A text is the page of another.
+abbrev pub IsPage : Option Bounds → List ℕ → List ℕ → Type 0
+IsPage asked first text = text ≡ page asked first
+
+-- ---- any form
 -- The outcome of a form.
 abbrev pub form_due : Form → List ℕ → List ℕ → Outcome
 form_due (OnTrace view) first second = view_due view first second
 form_due (OnItself about) first second = Done
+form_due (Page asked) first second = outcome_with page_answer (text_due 1 first)
 
 -- Why a form refuses the first text, whatever the second is.
 abbrev pub first_refusal : Form → List ℕ → Option Outcome
 first_refusal (OnTrace view) first = table_refusal_of first
 first_refusal (OnItself about) first = None
+first_refusal (Page asked) first = refusal_in (text_due 1 first)
 
 -- What a form writes of both texts.
 abbrev pub IsFormText : Form → List ℕ → List ℕ → List ℕ → Type 0
 IsFormText (OnTrace view) first second text = IsViewText view first second text
 IsFormText (OnItself about) first second text = text ≡ itself_text about
+IsFormText (Page asked) first second text = IsTextOf page_answer (IsPage asked) (text_due 1 first) text

@@ -1,4 +1,5 @@
--- The forms of the command line: each asks for a view of a trace, or for what the program tells of itself. A word is its bytes.
+-- The forms of the command line: each asks for a view of a trace, for the page of a table, or for what the program tells of itself. A word
+-- is its bytes.
 use Rattle.std.specs.Prelude.{ℕ, ◌≤◌, List, [], ◌∷◌, Bool, true, false, ◌&&◌, nat_lt, nat_le, codes, Option, Some, None, if◌then◌else◌}
 use Rattle.std.specs.Option.{option_and_then, option_map, option_map_or}
 use Rattle.std.specs.Str.{bytes_eq}
@@ -9,10 +10,10 @@ use Rattle.bus_dump.specs.declared.dump.Dump.TheVariants as dump
 use Rattle.bus_trace.specs.Windows.{Window}
 use Rattle.bus_bounds.specs.Bounds.{Bounds}
 use Rattle.bus_command.specs.About.{about_of}
-use Rattle.bus_command.specs.Bounding.{most_near_delay, near_bounds_of}
-use Rattle.bus_command.specs.Readers.{Named, no_source, by_trace}
+use Rattle.bus_command.specs.Bounding.{are_bounds, bounds_of, most_near_delay, near_bounds_of}
+use Rattle.bus_command.specs.Readers.{Named, entire, no_source, one_source, by_trace}
 pub use Rattle.bus_view.specs.declared.forms.Form.{Form}
-pub use Rattle.bus_view.specs.declared.forms.Form.TheVariants.{OnTrace, OnItself}
+pub use Rattle.bus_view.specs.declared.forms.Form.TheVariants.{OnTrace, OnItself, Page}
 pub use Rattle.bus_view.specs.declared.forms.Picture.{Picture}
 pub use Rattle.bus_view.specs.declared.forms.Picture.TheVariants.{TimeLine, Cycles}
 pub use Rattle.bus_view.specs.declared.forms.View.{View}
@@ -92,10 +93,26 @@ one_word word = option_map OnItself (about_of word)
 abbrev pub on_trace : Option View → Option Form
 on_trace view = option_map OnTrace view
 
+-- The page within the bounds that three words write.
+abbrev pub page_within : (delay jitter clocks : List ℕ) → Option Form
+page_within delay jitter clocks =
+    if are_bounds delay jitter clocks then Some (Page (Some (bounds_of delay jitter clocks))) else None
+
+-- `page T`, `page T D J P`, whatever the word T is.
+abbrev pub page_of : List (List ℕ) → Option Form
+page_of (command ∷ table ∷ []) = Some (Page None)
+page_of (command ∷ table ∷ delay ∷ jitter ∷ clocks ∷ []) = page_within delay jitter clocks
+page_of words = None
+
+-- What these words ask for, by the first of them.
+abbrev pub asked_by : List ℕ → List (List ℕ) → Option Form
+asked_by command words = if bytes_eq command (codes "page") then page_of words else on_trace (view_of words)
+
 -- What these words ask for.
 abbrev pub form_of : List (List ℕ) → Option Form
+form_of [] = None
 form_of (word ∷ []) = one_word word
-form_of words = on_trace (view_of words)
+form_of (command ∷ table ∷ further) = asked_by command (command ∷ table ∷ further)
 
 -- The delay of the bounds of a view, where it has bounds, is within its limit.
 abbrev pub IsNear : View → Type 0
@@ -108,13 +125,16 @@ IsNear (Judged picture bounds window) = bounds.delay ≤ most_near_delay
 abbrev pub IsWithinLimits : Form → Type 0
 IsWithinLimits (OnTrace view) = IsNear view
 IsWithinLimits (OnItself about) = Unit {0}
+IsWithinLimits (Page asked) = Unit {0}
 
 -- The sources that a form names.
 abbrev pub sources_of : Form → Named
 sources_of (OnTrace view) = by_trace
 sources_of (OnItself about) = no_source
+sources_of (Page asked) = one_source entire
 
 -- Whether a form takes any memory.
 abbrev pub takes_memory : Form → Bool
 takes_memory (OnTrace view) = true
 takes_memory (OnItself about) = false
+takes_memory (Page asked) = true

@@ -8,6 +8,7 @@ ghost use Rattle.bus_view.specs.Forms.{OnTrace, IsNear};
 use crate::drawing::draw;
 use crate::forms::{Form, View, form_of};
 use crate::itself::tell_itself;
+use crate::paging::page;
 use crate::painting::{paint, paint_judged};
 use crate::refusal::{Doubled, Outcome};
 use crate::saving::save;
@@ -73,5 +74,6 @@ pub fn act<S: Source, K: Sink>(
         None => Outcome::Usage,
         Some(Form::OnTrace(view)) => show(alloc, view, first, second, out),
         Some(Form::OnItself(about)) => tell_itself(about, out),
+        Some(Form::Page(asked)) => page(alloc, asked, first, out),
     }
 }

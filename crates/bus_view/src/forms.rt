@@ -6,7 +6,7 @@ ghost use Rattle.bus_view.specs.Forms as forms;
 ghost use Rattle.bus_view.specs.Forms.{IsNear, IsWithinLimits};
 
 use bus_bounds::Bounds;
-use bus_command::{About, about_of, near_bounds_of};
+use bus_command::{About, about_of, bounds_of, near_bounds_of};
 use bus_dump::Dump;
 use bus_text::plain_decimal;
 use bus_trace::Window;
@@ -41,6 +41,9 @@ pub enum Form {
     OnTrace(View),
     /// `--help`, `--version`: what the program tells of itself.
     OnItself(About),
+    /// `page T`: the page of the table in the file `T`; `page T D J P`: with its margins within D and J in nanoseconds and P in millionths,
+    /// each within its limit.
+    Page(Option<Bounds>),
 }
 
 /// The window that two words write, in bit times: plain decimals of which the first is less, and the second at most the limit of a horizon.
@@ -195,14 +198,51 @@ fn view_of(words: &[String]) -> Option<View>
     }
 }
 
-/// What these words ask for: a view; `--help`, `--version`; None where they are no form.
+/// The page within the bounds that three words write.
+fn page_within(delay: &[u8], jitter: &[u8], clocks: &[u8]) -> Option<Form>
+    ensures value { result ≡ forms.page_within delay.now jitter.now clocks.now }
+    ensures limits { IfSome result IsWithinLimits }
+{
+    let bounds = bounds_of(delay, jitter, clocks)?;
+    Some(Form::Page(Some(bounds)))
+}
+
+/// The page that these words ask for: `page T`, `page T D J P`.
+fn page_of(words: &[String]) -> Option<Form>
+    ensures value { result ≡ forms.page_of (words_of words.now) }
+    ensures limits { IfSome result IsWithinLimits }
+{
+    match words.len() {
+        2 => Some(Form::Page(None)),
+        5 => page_within(
+            words[2].as_bytes(),
+            words[3].as_bytes(),
+            words[4].as_bytes(),
+        ),
+        _ => None,
+    }
+}
+
+/// What these words ask for, by the first of them.
+fn asked_by(command: &str, words: &[String]) -> Option<Form>
+    ensures value { result ≡ forms.asked_by command.now (words_of words.now) }
+    ensures limits { IfSome result IsWithinLimits }
+{
+    if command == "page" {
+        page_of(words)
+    } else {
+        on_trace(view_of(words))
+    }
+}
+
+/// What these words ask for: a view; the page of a table; `--help`, `--version`; None where they are no form.
 pub fn form_of(words: &[String]) -> Option<Form>
     ensures value { result ≡ forms.form_of (words_of words.now) }
     ensures limits { IfSome result IsWithinLimits }
 {
-    if words.len() == 1 {
-        one_word(words[0].as_str())
-    } else {
-        on_trace(view_of(words))
+    match words.len() {
+        0 => None,
+        1 => one_word(words[0].as_str()),
+        _ => asked_by(words[0].as_str(), words),
     }
 }

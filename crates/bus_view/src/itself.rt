@@ -2,7 +2,7 @@
 ghost use Rattle.std.specs.Prelude.{◌≡◌, ◌≢◌};
 ghost use Rattle.bus_command.specs.About.{EndsTelling};
 ghost use Rattle.bus_command.specs.declared.outcome.Outcome.TheVariants.{NoMemory};
-ghost use Rattle.bus_view.specs.Itself.{itself_text};
+ghost use Rattle.bus_view.specs.Itself.{itself_text, version_text};
 
 use crate::refusal::Outcome;
 use bus_command::{About, tell};
@@ -11,7 +11,8 @@ use bus_outer::Sink;
 /// The help, which `docs/bus629-view.help` has too.
 pub const HELP: &[u8] = b"bus629-view shows recorded traces of buses after ARINC 629 (Basic Protocol). It writes them as Value
 Change Dumps (IEEE 1364), which wave viewers such as GTKWave read (sigrok and PulseView only wires),
-and as SVG pictures, which browsers show. What it writes is proved.
+and as SVG pictures, which browsers show; and on a table one HTML page for who reviews it. What it
+writes is proved.
 
   bus629-view vcd T R [FROM TO]     the dump of the trace in the file R, on the table in the file T:
                                     the bus, with the first breach, and each sender or other
@@ -27,17 +28,22 @@ and as SVG pictures, which browsers show. What it writes is proved.
                                     finds, by timer and amount
   bus629-view cycles T R D J P [FROM TO]
                                     the rows with these faults
+  bus629-view page T                the page on the table in the file T, without any trace: verdict,
+                                    cycles, what limits it, and where data wait
+  bus629-view page T D J P          the page with the room that margins T D J P of bus629 tells
   bus629-view --help                this text
   bus629-view --version             the version of the program, and of each text that it reads
 
 FROM and TO are moments in bit times of half a microsecond: what is written is of the bit times from
 FROM to below TO, or in cycles of what begins there; without them of all of the trace. D (0 to 9) and
-J (0 to 255) are in bit times, P (0 to 1000) in millionths: how exact the recorded bus is.
+J (0 to 255) are in bit times, P (0 to 1000) in millionths: how exact the recorded bus is. In page,
+D (0 to 1000000) and J (0 to 100000) are in nanoseconds.
 
 What run, drop, observe, cable and unwave of bus629 write is a trace. The status is 0 where the text
-is written, 2 where the words are no command, 3 where the text of the table or the table as a whole
-is refused, 4 where the trace is, 5 for a failed read, 6 for a failed write, 7 where memory is
-refused, and 8 for a file past its limit. A line on standard error says why from 2 on.
+is written, 1 where the page says that T gives no accepted table, 2 where the words are no command,
+3 where the text of the table or the table as a whole is refused, 4 where the trace is, 5 for a
+failed read, 6 for a failed write, 7 where memory is refused, and 8 for a file past its limit. A
+line on standard error says why from 2 on.
 
 docs/FORMATS.md has the signals, the texts, lines and statuses, docs/CLAIMS.md what is proved;
 examples/ has a table and a trace to try.
@@ -45,6 +51,14 @@ examples/ has a table and a trace to try.
 
 /// The version of the program, and those of the texts that it reads and writes.
 pub const VERSION: &[u8] = b"bus629-view 1.0.0 (TABLE 1, TRACE 1 and 2)\n";
+
+/// The version line.
+#[tactic(auto, unfolding(crate::specs::Itself::version_text))]
+pub(crate) fn version() -> &'static [u8]
+    ensures { result.now ≡ version_text }
+{
+    VERSION
+}
 
 /// What is asked of the program itself.
 #[tactic(auto, unfolding(crate::specs::Itself::help_text, crate::specs::Itself::version_text))]

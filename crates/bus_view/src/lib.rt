@@ -1,4 +1,4 @@
-//! The commands of bus629-view, whatever their words, sources and sinks: a trace to look at.
+//! The commands of bus629-view, whatever their words, sources and sinks: a trace, or a table, to look at.
 //!
 //! [`view`] is the top call: it does the command that the words ask for, writes a fault line on `err`, and says how the program ends.
 //! [`act`] is the command alone. What it has in common with every command over such texts is in `bus_command`; `specs/Due` has what is due
@@ -10,6 +10,7 @@ mod command;
 mod drawing;
 mod forms;
 mod itself;
+mod paging;
 mod painting;
 mod refusal;
 mod saving;

@@ -1,4 +1,5 @@
 -- What a command did, told form by form and behind its texts. No public clause cites it.
+use Rattle.std.specs.Prelude.{◌≡◌, List, ℕ}
 use Rattle.bus_outer.specs.declared.sink.Sink.{Ghosts as SinkGhosts}
 use Rattle.bus_outer.specs.declared.source.Source.{Ghosts as SourceGhosts}
 use Rattle.bus_table.specs.Tables.{Table}
@@ -7,7 +8,7 @@ use Rattle.bus_command.specs.inside.Acting as acting
 use Rattle.bus_command.specs.Acts.{Ends}
 use Rattle.bus_command.specs.Outside.{sink_seen}
 use Rattle.bus_view.specs.Due.{view_answer, IsOfView}
-use Rattle.bus_command.specs.Readers.{by_trace}
+use Rattle.bus_command.specs.Readers.{by_trace, entire, one_source}
 use Rattle.bus_view.specs.Forms.{Form, View}
 use Rattle.bus_view.specs.Refusals.{Outcome}
 use Rattle.bus_view.specs.Acts.{view_program}
@@ -20,3 +21,12 @@ DoesBoth = acting.DoesBoth view_program
 abbrev pub EndsOnView : {K : Type 0} → SinkGhosts K → View → Table → Recording → K → K → Outcome → Type 0
 EndsOnView ghosts view table trace old new outcome =
     Ends by_trace (view_answer view table trace) (IsOfView view table trace) (sink_seen ghosts old) (sink_seen ghosts new) outcome
+
+-- What the command of a form did whose first source was this before and after, whatever the second is.
+abbrev pub DoesFirst : {S K : Type 0} → SourceGhosts S → SinkGhosts K → Form → S → K → S → K → Outcome → Type 0
+DoesFirst = acting.DoesFirst view_program
+
+-- What `page` did that has read its text, of which this is to be answered and written.
+abbrev pub EndsPaging : {K : Type 0} → SinkGhosts K → Outcome → List ℕ → K → K → Outcome → Type 0
+EndsPaging ghosts answer page old new outcome =
+    Ends (one_source entire) answer (λ text. text ≡ page) (sink_seen ghosts old) (sink_seen ghosts new) outcome

@@ -4,4 +4,4 @@ use Rattle.bus_page.proofs.foot.write_foot.Goals as goal
 pub returns : goal.returns
 returns g c =
     ends_text g.K.Sink.held g.K.Sink.faults c.args.sink.now c.put-2.new.sink c.finish.new.sink c.new-text.result c.put-2.new.self c.finish.result _ c.finish.ensures
-    (c.put.ensures ▸ c.put_canonical.ensures ▸ c.put_source.ensures ▸ c.put-2.ensures) c.new-text.ensures
+    (c.put.ensures ▸ c.put_given.ensures ▸ c.put_source.ensures ▸ c.put-2.ensures) c.new-text.ensures

@@ -9,7 +9,7 @@ use Rattle.bus_page.proofs.heading.put_figures.Goals as goal
 
 pub returns : goal.returns
 returns g c =
-    let text : Mode → ℕ → ℕ → List ℕ = λ m s l. codes "<dl>\n" ++ cycle_figure m c.args.least c.args.most ++ spare_figure s ++ load_figure l ++ tolerance_figure c.args.tolerance ++ level_figure c.args.table.now ++ codes "</dl>\n" in
+    let text : Mode → ℕ → ℕ → List ℕ = λ m s l. codes "<dl>\n" ++ cycle_figure m c.args.least c.args.most ++ spare_figure s ++ load_figure l ++ tolerance_figure c.args.tolerance ++ level_figure c.args.bounds c.args.table.now ++ codes "</dl>\n" in
     subst (λ (t : List ℕ). Adds g.K.Sink.held g.K.Sink.faults c.args.sink.now c.put-2.new.sink c.args.text.now c.put-2.new.self t)
     (ap (λ (x : Mode). text x c.spare-spare.result c.load-load.result) (c.mode.ensures.value)
     ∙ ap (λ (x : ℕ). text c.args.table.now.mode x c.load-load.result) (c.spare-spare.ensures)

@@ -1,0 +1,16 @@
+use Rattle.std.proofs.Common.{◌++◌}
+use Rattle.bus_outer.proofs.WriteLaws.{writes_then}
+use Rattle.bus_explain.specs.Unread.{unread_text}
+use Rattle.bus_page.specs.Feet.{foot_text}
+use Rattle.bus_page.proofs.CutLemmas.{text_cut}
+use Rattle.bus_page.proofs.bare.write_unread_end.Goals as goal
+
+pub returns : goal.returns
+returns g c =
+    writes_then g.K.Sink.held g.K.Sink.faults c.args.sink.now c.write_unread.new.sink c.write_foot.new.sink c.in_ok-write_unread.field-0 c.write_foot.result
+    (unread_text c.args.line c.args.reason c.args.stop.now) (foot_text c.args.program.now c.args.bytes.now) c.in_ok-write_unread.ensures c.write_foot.ensures
+
+pub returns-in_err-write_unread : goal.returns-in_err-write_unread
+returns-in_err-write_unread g c =
+    text_cut g.K.Sink c.args.sink.now c.write_unread.new.sink c.in_err-write_unread.field-0.0 c.from_residual.result
+    (unread_text c.args.line c.args.reason c.args.stop.now) (foot_text c.args.program.now c.args.bytes.now) c.in_err-write_unread.ensures c.from_residual.ensures.1

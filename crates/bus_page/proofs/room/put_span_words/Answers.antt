@@ -1,0 +1,5 @@
+use Rattle.bus_outer.proofs.TextLaws.{◌▸◌}
+use Rattle.bus_page.proofs.room.put_span_words.Goals as goal
+
+pub returns : goal.returns
+returns g c = c.put.ensures ▸ c.put_number.ensures ▸ c.put-2.ensures ▸ c.put_number-2.ensures ▸ c.put-3.ensures

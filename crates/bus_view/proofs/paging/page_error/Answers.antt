@@ -1,0 +1,32 @@
+use Rattle.std.proofs.Common.{◌≡◌, arith, refl, ap, subst}
+use Rattle.std.specs.Prelude.{Err}
+use Rattle.bus_command.specs.declared.outcome.Outcome.TheVariants.{Answered}
+use Rattle.bus_command.specs.Readers.{entire, one_source}
+use Rattle.bus_command.proofs.DoLaws.{answered, roomless}
+use Rattle.bus_page.specs.Pages.{whole_page}
+use Rattle.bus_table.specs.Gives.{Fails}
+use Rattle.bus_table.specs.Reading.{answer_of}
+use Rattle.bus_table.specs.declared.error.TableError.{TableError}
+use Rattle.bus_table.specs.declared.error.TableError.TheVariants.{Text, Whole}
+use Rattle.bus_view.specs.Due.{page_answer}
+use Rattle.bus_view.specs.Itself.{version_text}
+use Rattle.bus_view.proofs.PageLaws.{answer_ends, page_late}
+use Rattle.bus_view.proofs.paging.page_error.Goals as goal
+
+pub returns-in-Text : goal.returns-in-Text
+returns-in-Text g c =
+    answer_ends g.K.Sink c.args.asked c.args.text.now (Err (Text c.in-Text.line c.in-Text.reason)) c.args.out.now c.page_unread.new.out c.page_unread.result
+    (subst (λ (e : TableError). Fails e (answer_of c.args.text.now)) c.in-Text.is c.requires) c.page_unread.ensures
+
+pub returns-in-Whole : goal.returns-in-Whole
+returns-in-Whole g c =
+    answer_ends g.K.Sink c.args.asked c.args.text.now (Err (Whole c.in-Whole.reason)) c.args.out.now c.write_whole_page.new.sink c.after_writing.result
+    (subst (λ (e : TableError). Fails e (answer_of c.args.text.now)) c.in-Whole.is c.requires)
+    (answered (one_source entire) Answered (λ text. text ≡ whole_page version_text c.args.text.now c.in-Whole.reason) g.K.Sink c.args.out.now
+    c.write_whole_page.new.sink (whole_page c.version.result.now c.args.text.now c.in-Whole.reason) c.write_whole_page.result
+    c.after_writing.result refl (ap (λ program. whole_page program c.args.text.now c.in-Whole.reason) c.version.ensures)
+    c.write_whole_page.ensures c.after_writing.ensures)
+
+pub returns-in-Memory : goal.returns-in-Memory
+returns-in-Memory g c =
+    roomless (one_source entire) (page_answer c.args.text.now) _ _ (let late = page_late c.args.text.now in omega arith)
