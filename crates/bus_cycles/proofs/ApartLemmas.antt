@@ -2,9 +2,12 @@
 use Rattle.std.proofs.Common.{◌≡◌, ◌≢◌, ◌⊎◌, ℕ, zero, suc, ◌+◌, ◌-◌, ◌%◌, ◌<◌, ◌≤◌, Bool, true, false, cond, eqb, max, inl, inr, get_or, arith, sym, ap, subst}
 use Rattle.std.proofs.lemmas.Bool.{cases_lt}
 use Rattle.bus_shapes.specs.declared.sent.Sent.{Sent}
-use Rattle.bus_cycles.specs.Laws.{BreachHidesNone, FaultHidesNone, ThreeLieApart}
+use Rattle.bus_table.specs.inside.Facts.{TableFacts}
+use Rattle.bus_table.proofs.ValidLaws.{valid_facts}
+use Rattle.bus_cycles.specs.Laws.{BreachHidesNone, FaultHidesNone, SlotsAreKept, ThreeLieApart}
 use Rattle.bus_cycles.specs.Pages.{Page, page_of, row_height_of, top_of}
 use Rattle.bus_cycles.specs.RowTexts.{below_top, height_of, shade}
+use Rattle.bus_cycles.proofs.LaneLemmas.{slot_is}
 
 -- ---- the height of a row
 pub height_is : (garbled : ℕ) → (140 ≤ row_height_of garbled) × (row_height_of garbled ≤ 320)
@@ -25,13 +28,13 @@ within_row page (suc (suc (suc (suc (suc n))))) high low = absurd (omega arith)
 
 pub shade_low : (page : Page) (sent : Sent) → shade page sent < 5
 shade_low page sent =
-    let slot : sent.at % 3 < 3 = omega arith in
+    let slot : get_or page.lanes sent.terminal 0 % 3 < 3 = omega arith in
     let lane : get_or page.lanes sent.terminal 0 % 2 < 2 = omega arith in
-    by_case sent.garbled slot lane
+    by_case sent.garbled (get_or page.lanes sent.terminal 0 % 3) (get_or page.lanes sent.terminal 0 % 2) slot lane
   where
-    by_case : (b : Bool) → sent.at % 3 < 3 → get_or page.lanes sent.terminal 0 % 2 < 2 → cond b (2 + sent.at % 3) (get_or page.lanes sent.terminal 0 % 2) < 5
-    by_case true slot lane = omega arith
-    by_case false slot lane = omega arith
+    by_case : (b : Bool) (slot lane : ℕ) → slot < 3 → lane < 2 → cond b (2 + slot) lane < 5
+    by_case true slot lane h k = omega arith
+    by_case false slot lane h k = omega arith
 
 pub hides_none : BreachHidesNone
 hides_none table survey counts row begin left sent =
@@ -97,19 +100,33 @@ either page top one other high low other_low differ =
     ]
 
 pub lie_apart : ThreeLieApart
-lie_apart table survey counts row begin one other garbled garbled' less near =
+lie_apart table survey counts row begin k m a b one other valid less near at_one at_other by_one by_other garbled garbled' =
     let page : Page = page_of table survey counts in
+    let facts : TableFacts table = valid_facts table valid in
     let top : ℕ = top_of page row in
     let high : 140 ≤ page.row_height = (height_is counts.garbled).0 in
-    let shade_is : shade page one ≡ 2 + one.at % 3 = ap (λ b. cond b (2 + one.at % 3) (get_or page.lanes one.terminal 0 % 2)) garbled in
-    let shade_is' : shade page other ≡ 2 + other.at % 3 = ap (λ b. cond b (2 + other.at % 3) (get_or page.lanes other.terminal 0 % 2)) garbled' in
-    let low : one.at % 3 < 3 = omega arith in
-    let low' : other.at % 3 < 3 = omega arith in
-    let found = either page top (one.at % 3) (other.at % 3) high low low' (slots_differ one.at other.at less near) in
+    let shade_is : shade page one ≡ 2 + k % 3 = slot_is table survey counts facts k a one at_one by_one garbled in
+    let shade_is' : shade page other ≡ 2 + m % 3 = slot_is table survey counts facts m b other at_other by_other garbled' in
+    let low : k % 3 < 3 = omega arith in
+    let low' : m % 3 < 3 = omega arith in
+    let found = either page top (k % 3) (m % 3) high low low' (slots_differ k m less near) in
     subst (λ n. (top + below_top page n + height_of page n ≤ top + below_top page (shade page other))
     ⊎ (top + below_top page (shade page other) + height_of page (shade page other) ≤ top + below_top page n)) (sym shade_is)
-    (subst (λ n. (top + below_top page (2 + one.at % 3) + height_of page (2 + one.at % 3) ≤ top + below_top page n)
-    ⊎ (top + below_top page n + height_of page n ≤ top + below_top page (2 + one.at % 3))) (sym shade_is') found)
+    (subst (λ n. (top + below_top page (2 + k % 3) + height_of page (2 + k % 3) ≤ top + below_top page n)
+    ⊎ (top + below_top page n + height_of page n ≤ top + below_top page (2 + k % 3))) (sym shade_is') found)
   where
     slots_differ : (a b : ℕ) → a < b → b < a + 3 → a % 3 ≢ b % 3
     slots_differ a b less near e = omega arith
+
+-- ---- a terminal keeps its slot
+pub slots_kept : SlotsAreKept
+slots_kept page row row' begin begin' one other same alike =
+    let tone : shade page one ≡ shade page other =
+    ap (λ n. cond one.garbled (2 + get_or page.lanes n 0 % 3) (get_or page.lanes n 0 % 2)) same
+    ∙ ap (λ b. cond b (2 + get_or page.lanes other.terminal 0 % 3) (get_or page.lanes other.terminal 0 % 2)) alike in (
+      moved (top_of page row) (top_of page row') (below_top page (shade page one)) (below_top page (shade page other)) (ap (below_top page) tone),
+      ap (height_of page) tone,
+    )
+  where
+    moved : (top top' below below' : ℕ) → below ≡ below' → top + below + top' ≡ top' + below' + top
+    moved top top' below below' e = omega arith

@@ -9,6 +9,7 @@ use Rattle.bus_table.specs.declared.mode.Mode.TheVariants.{Aperiodic, Periodic}
 use Rattle.bus_table.proofs.ValidLaws.{valid_facts}
 use Rattle.bus_cycles.specs.Laws.{Ascend, BreachIsAtItsMoment, TheLastRowIsMarked}
 use Rattle.bus_cycles.specs.Rows.{Cycle, Extent, Row, cycle_of, extent_of, interval_of, rows, takes, takes_in}
+use Rattle.bus_cycles.specs.Cuts.{Seen}
 use Rattle.bus_cycles.specs.Sents.{shown}
 use Rattle.bus_cycles.specs.Surveys.{Survey, is_drawn, nothing, reach_of, told_of, with_row}
 use Rattle.bus_cycles.proofs.AscendLemmas.{rows_ascend}
@@ -21,11 +22,11 @@ pub record IsTaken (cycle : Cycle) (moment : ℕ) (list : List Row) (extent : Ex
   pub extent_is : extent ≡ extent_of row
   pub takes_it : takes cycle extent moment ≡ true
 
-taken_from : (cycle : Cycle) (moment : ℕ) (list : List Row) (survey : Survey) (extent : Extent)
-    → (fold (with_row cycle (Some moment)) survey (map extent_of list)).marked ≡ Some extent → (survey.marked ≡ Some extent) ⊎ IsTaken cycle moment list extent
-taken_from cycle moment [] survey extent e = inl e
-taken_from cycle moment (r ∷ rs) survey extent e =
-    elim (taken_from cycle moment rs (with_row cycle (Some moment) survey (extent_of r)) extent e) [
+taken_from : (cycle : Cycle) (seen : Seen) (moment : ℕ) (list : List Row) (survey : Survey) (extent : Extent)
+    → (fold (with_row cycle seen (Some moment)) survey (map extent_of list)).marked ≡ Some extent → (survey.marked ≡ Some extent) ⊎ IsTaken cycle moment list extent
+taken_from cycle seen moment [] survey extent e = inl e
+taken_from cycle seen moment (r ∷ rs) survey extent e =
+    elim (taken_from cycle seen moment rs (with_row cycle seen (Some moment) survey (extent_of r)) extent e) [
       | inl here ↦ both (takes cycle (extent_of r) moment) refl here
       | inr later ↦ inr (record { row = later.row; one = inr later.one; extent_is = later.extent_is; takes_it = later.takes_it })
     ]
@@ -68,13 +69,13 @@ held_by lift survey moment extent marked drawn =
     omega arith
 
 pub at_its_moment : BreachIsAtItsMoment
-at_its_moment table window list moment extent valid marked drawn =
+at_its_moment table window list seen moment extent valid marked drawn =
     let cycle = cycle_of table in
-    let told = told_of cycle (Some moment) (shown window list) in
+    let told = told_of cycle seen (Some moment) (shown window list) in
     let facts = valid_facts table valid in
     let least : 1000 ≤ table.ti = facts.ti_least in
     let some : 0 < table.ti = omega arith in
-    elim (taken_from cycle moment (rows table window list) (nothing cycle) extent marked) [
+    elim (taken_from cycle seen moment (rows table window list) (nothing cycle) extent marked) [
       | inl none ↦ absurd (cc)
       | inr taken ↦
           let is : IsTaking table.mode cycle extent moment = taking table.mode cycle extent moment some taken.takes_it in
@@ -94,33 +95,33 @@ pub record IsBehind (marked : Option Extent) (begin : ℕ) : Type 0 where
   pub is : marked ≡ Some extent
   pub last : begin ≤ extent.begin
 
-stays_behind : (cycle : Cycle) (moment : ℕ) (list : List Row) (survey : Survey) (begin : ℕ) → AllByRecursion (λ (next : Row). begin < next.begin) list
-    → IsBehind survey.marked begin → IsBehind (fold (with_row cycle (Some moment)) survey (map extent_of list)).marked begin
-stays_behind cycle moment [] survey begin later is = is
-stays_behind cycle moment (r ∷ rs) survey begin later is =
-    stays_behind cycle moment rs (with_row cycle (Some moment) survey (extent_of r)) begin later.1 (next (takes cycle (extent_of r) moment))
+stays_behind : (cycle : Cycle) (seen : Seen) (moment : ℕ) (list : List Row) (survey : Survey) (begin : ℕ) → AllByRecursion (λ (next : Row). begin < next.begin) list
+    → IsBehind survey.marked begin → IsBehind (fold (with_row cycle seen (Some moment)) survey (map extent_of list)).marked begin
+stays_behind cycle seen moment [] survey begin later is = is
+stays_behind cycle seen moment (r ∷ rs) survey begin later is =
+    stays_behind cycle seen moment rs (with_row cycle seen (Some moment) survey (extent_of r)) begin later.1 (next (takes cycle (extent_of r) moment))
   where
     next : (b : Bool) → IsBehind (cond b (Some (extent_of r)) survey.marked) begin
     next true = let low : begin < r.begin = later.0 in record { extent = extent_of r; is = refl; last = omega arith }
     next false = is
 
-marked_from : (cycle : Cycle) (moment : ℕ) (list : List Row) (survey : Survey) (row : Row) → Ascend list → In row list
-    → takes cycle (extent_of row) moment ≡ true → IsBehind (fold (with_row cycle (Some moment)) survey (map extent_of list)).marked row.begin
-marked_from cycle moment [] survey row order i t = absurd i
-marked_from cycle moment (r ∷ rs) survey row order (inl same) t =
+marked_from : (cycle : Cycle) (seen : Seen) (moment : ℕ) (list : List Row) (survey : Survey) (row : Row) → Ascend list → In row list
+    → takes cycle (extent_of row) moment ≡ true → IsBehind (fold (with_row cycle seen (Some moment)) survey (map extent_of list)).marked row.begin
+marked_from cycle seen moment [] survey row order i t = absurd i
+marked_from cycle seen moment (r ∷ rs) survey row order (inl same) t =
     let here : takes cycle (extent_of r) moment ≡ true = subst (λ (y : Row). takes cycle (extent_of y) moment ≡ true) same t in
     let begins : row.begin ≡ r.begin = ap (λ (y : Row). y.begin) same in
-    subst (λ b. IsBehind (fold (with_row cycle (Some moment)) (with_row cycle (Some moment) survey (extent_of r)) (map extent_of rs)).marked b) (sym begins)
-    (stays_behind cycle moment rs (with_row cycle (Some moment) survey (extent_of r)) r.begin order.0 (record {
+    subst (λ b. IsBehind (fold (with_row cycle seen (Some moment)) (with_row cycle seen (Some moment) survey (extent_of r)) (map extent_of rs)).marked b) (sym begins)
+    (stays_behind cycle seen moment rs (with_row cycle seen (Some moment) survey (extent_of r)) r.begin order.0 (record {
       extent = extent_of r;
       is = ap (λ b. cond b (Some (extent_of r)) survey.marked) here;
       last = omega arith;
     }))
-marked_from cycle moment (r ∷ rs) survey row order (inr i) t =
-    marked_from cycle moment rs (with_row cycle (Some moment) survey (extent_of r)) row order.1 i t
+marked_from cycle seen moment (r ∷ rs) survey row order (inr i) t =
+    marked_from cycle seen moment rs (with_row cycle seen (Some moment) survey (extent_of r)) row order.1 i t
 
 pub last_marked : TheLastRowIsMarked
-last_marked table window trace moment row valid is i t =
+last_marked table window trace seen moment row valid is i t =
     let cycle = cycle_of table in
-    let found = marked_from cycle moment (rows table window trace.list) (nothing cycle) row (rows_ascend table window trace valid is) i t in
+    let found = marked_from cycle seen moment (rows table window trace.list) (nothing cycle) row (rows_ascend table window trace valid is) i t in
     record { extent = found.extent; marked = found.is; last = found.last }

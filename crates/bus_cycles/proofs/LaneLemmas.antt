@@ -1,5 +1,5 @@
 -- The lanes of terminals, and that neighbours in turn order have different shades.
-use Rattle.std.proofs.Common.{◌≡◌, ◌≢◌, ℕ, zero, suc, ◌+◌, ◌%◌, ◌<◌, ◌≤◌, false, cond, List, [], ◌∷◌, Some, inl, inr, length, get_or, drop, arith, sym, refl, ap, ◌∙◌}
+use Rattle.std.proofs.Common.{◌≡◌, ◌≢◌, ℕ, zero, suc, ◌+◌, ◌%◌, ◌<◌, ◌≤◌, true, false, cond, List, [], ◌∷◌, Some, inl, inr, length, get_or, drop, arith, sym, refl, ap, ◌∙◌}
 use Rattle.std.specs.Prelude.{slice_get}
 use Rattle.std.proofs.lemmas.Bool.{eq-eqb, ne_eqb}
 use Rattle.std.proofs.lemmas.List.{ext_get_or}
@@ -75,14 +75,24 @@ number_low table facts k s at =
     (of_each (SenderFacts table) table.senders facts.senders s (from_sort (turn_key table.mode) table.senders s (at_in (turn_order table) k s at))).number_most
 
 -- ---- shades
+lane_told : (table : Table) (survey : Survey) (counts : Counts) (facts : TableFacts table) (k : ℕ) (s : Sender) (sent : Sent)
+    → slice_get (turn_order table) k ≡ Some s → sent.terminal ≡ s.number → get_or (lanes_of table) sent.terminal 0 ≡ k
+lane_told table survey counts facts k s sent at by =
+    let low : s.number ≤ 128 = number_low table facts k s at in
+    ap (λ n. get_or (lanes_of table) n 0) by ∙ get_or-map-range_with_len (lane_of table) 0 256 s.number s.number 0 (omega arith) (let e : 0 + s.number ≡ s.number = omega arith in e)
+    ∙ lane_is table facts k s at
+
 shade_is : (table : Table) (survey : Survey) (counts : Counts) (facts : TableFacts table) (k : ℕ) (s : Sender) (sent : Sent)
     → slice_get (turn_order table) k ≡ Some s → sent.terminal ≡ s.number → sent.garbled ≡ false → shade (page_of table survey counts) sent ≡ k % 2
 shade_is table survey counts facts k s sent at by plain =
-    let low : s.number ≤ 128 = number_low table facts k s at in
-    let lane : get_or (lanes_of table) sent.terminal 0 ≡ k =
-    ap (λ n. get_or (lanes_of table) n 0) by ∙ get_or-map-range_with_len (lane_of table) 0 256 s.number s.number 0 (omega arith) (let e : 0 + s.number ≡ s.number = omega arith in e)
-    ∙ lane_is table facts k s at in
-    ap (λ b. cond b (2 + sent.at % 3) (get_or (lanes_of table) sent.terminal 0 % 2)) plain ∙ ap (λ n. n % 2) lane
+    ap (λ b. cond b (2 + get_or (lanes_of table) sent.terminal 0 % 3) (get_or (lanes_of table) sent.terminal 0 % 2)) plain
+    ∙ ap (λ n. n % 2) (lane_told table survey counts facts k s sent at by)
+
+pub slot_is : (table : Table) (survey : Survey) (counts : Counts) (facts : TableFacts table) (k : ℕ) (s : Sender) (sent : Sent)
+    → slice_get (turn_order table) k ≡ Some s → sent.terminal ≡ s.number → sent.garbled ≡ true → shade (page_of table survey counts) sent ≡ 2 + k % 3
+slot_is table survey counts facts k s sent at by garbled =
+    ap (λ b. cond b (2 + get_or (lanes_of table) sent.terminal 0 % 3) (get_or (lanes_of table) sent.terminal 0 % 2)) garbled
+    ∙ ap (λ n. 2 + n % 3) (lane_told table survey counts facts k s sent at by)
 
 pub neighbours_differ : NeighboursDiffer
 neighbours_differ table survey counts k a b one other valid at_one at_other by_one by_other plain_one plain_other same =

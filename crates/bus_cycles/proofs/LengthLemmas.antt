@@ -1,133 +1,191 @@
--- The least and the greatest length of rows.
+-- The least and the greatest length of whole rows, and how many rows there are.
 use Rattle.std.proofs.Common.{◌≡◌, ◌⊎◌, ℕ, ◌+◌, ◌<◌, ◌≤◌, Bool, true, false, cond, eqb, max, min, List, [], ◌∷◌, length, map, fold, Option, inl, inr, arith, sym, refl, ap, subst, ◌∙◌}
-use Rattle.std.proofs.lemmas.Bool.{cases_lt, ne_eqb}
+use Rattle.std.specs.List.{count_by, filter}
+use Rattle.std.proofs.lemmas.Bool.{cases_lt, ne_eqb, eq-eqb}
+use Rattle.std.proofs.lemmas.List.Sums.{length-filter}
 use Rattle.bus_strings.specs.Members.{In}
-use Rattle.bus_cycles.specs.Laws.{LengthsAreOfRows, RowsAreCounted, RowsHaveLengths}
+use Rattle.bus_cycles.specs.Cuts.{Seen, is_whole}
+use Rattle.bus_cycles.specs.Laws.{LengthsAreOfRows, RowsAreCounted, RowsHaveLengths, WholeAreCounted}
 use Rattle.bus_cycles.specs.Rows.{Cycle, Extent, Row, cycle_of, extent_of, rows}
+use Rattle.bus_cycles.specs.Sents.{shown}
 use Rattle.bus_cycles.specs.Surveys.{Survey, least_with, length_of, nothing, with_row}
 
--- a survey bounds a length
-record Bounds (survey : Survey) (n : ℕ) : Type 0 where
-  some : 0 < survey.count
-  least : survey.least ≤ n
-  most : n ≤ survey.most
+-- ---- the lengths bound those of whole rows
+-- these lengths, of so many whole rows, bound one
+record Bounds (whole least most n : ℕ) : Type 0 where
+  some : 0 < whole
+  low : least ≤ n
+  high : n ≤ most
 
-least_falls : (lift count least : ℕ) (row : Extent) → 0 < count → least_with lift count least row ≤ least
-least_falls lift count least row some =
-    let test : eqb count 0 ≡ false = ne_eqb count 0 (λ e. omega arith) in
-    let is : least_with lift count least row ≡ min least (length_of lift row) = ap (λ b. cond b (length_of lift row) (min least (length_of lift row))) test in
+least_falls : (lift whole least : ℕ) (row : Extent) → 0 < whole → least_with lift whole least row ≤ least
+least_falls lift whole least row some =
+    let test : eqb whole 0 ≡ false = ne_eqb whole 0 (λ e. omega arith) in
+    let is : least_with lift whole least row ≡ min least (length_of lift row) = ap (λ b. cond b (length_of lift row) (min least (length_of lift row))) test in
     omega arith
 
-least_here : (lift count least : ℕ) (row : Extent) → least_with lift count least row ≤ length_of lift row
-least_here lift count least row = by_case (eqb count 0) where
+least_here : (lift whole least : ℕ) (row : Extent) → least_with lift whole least row ≤ length_of lift row
+least_here lift whole least row = by_case (eqb whole 0) where
   by_case : (b : Bool) → cond b (length_of lift row) (min least (length_of lift row)) ≤ length_of lift row
   by_case true = omega arith
   by_case false = omega arith
 
-here : (cycle : Cycle) (breach : Option ℕ) (survey : Survey) (row : Extent) → Bounds (with_row cycle breach survey row) (length_of cycle.lift row)
-here cycle breach survey row = record {
-  some = omega arith;
-  least = least_here cycle.lift survey.count survey.least row;
-  most = omega arith;
-}
+-- with one row more, of which it is known whether it is whole
+still : (lift whole least most n : ℕ) (row : Extent) (t : Bool) → Bounds whole least most n
+    → Bounds (cond t (whole + 1) whole) (cond t (least_with lift whole least row) least) (cond t (max most (length_of lift row)) most) n
+still lift whole least most n row true b =
+    let falls : least_with lift whole least row ≤ least = least_falls lift whole least row b.some in
+    let low : least ≤ n = b.low in
+    let high : n ≤ most = b.high in
+    record { some = omega arith; low = omega arith; high = omega arith }
+still lift whole least most n row false b = b
 
-still : (cycle : Cycle) (breach : Option ℕ) (survey : Survey) (row : Extent) (n : ℕ) → Bounds survey n → Bounds (with_row cycle breach survey row) n
-still cycle breach survey row n b =
-    let low : survey.least ≤ n = b.least in
-    let high : n ≤ survey.most = b.most in
-    let falls : least_with cycle.lift survey.count survey.least row ≤ survey.least = least_falls cycle.lift survey.count survey.least row b.some in
-    record { some = omega arith; least = omega arith; most = omega arith }
+here : (lift whole least most : ℕ) (row : Extent) (t : Bool) → t ≡ true
+    → Bounds (cond t (whole + 1) whole) (cond t (least_with lift whole least row) least) (cond t (max most (length_of lift row)) most) (length_of lift row)
+here lift whole least most row true e = record { some = omega arith; low = least_here lift whole least row; high = omega arith }
+here lift whole least most row false e = absurd cc
 
-keeps : (cycle : Cycle) (breach : Option ℕ) (list : List Row) (survey : Survey) (n : ℕ) → Bounds survey n
-    → Bounds (fold (with_row cycle breach) survey (map extent_of list)) n
-keeps cycle breach [] survey n b = b
-keeps cycle breach (r ∷ rs) survey n b =
-    keeps cycle breach rs (with_row cycle breach survey (extent_of r)) n (still cycle breach survey (extent_of r) n b)
+abbrev Bound : Survey → ℕ → Type 0
+Bound survey n = Bounds survey.whole survey.least survey.most n
 
-bounded : (cycle : Cycle) (breach : Option ℕ) (list : List Row) (survey : Survey) (row : Row) → In row list
-    → Bounds (fold (with_row cycle breach) survey (map extent_of list)) (length_of cycle.lift (extent_of row))
-bounded cycle breach [] survey row i = absurd i
-bounded cycle breach (r ∷ rs) survey row (inl same) =
-    subst (λ (y : Row). Bounds (fold (with_row cycle breach) (with_row cycle breach survey (extent_of r)) (map extent_of rs)) (length_of cycle.lift (extent_of y)))
+keeps : (cycle : Cycle) (seen : Seen) (breach : Option ℕ) (list : List Row) (survey : Survey) (n : ℕ) → Bound survey n
+    → Bound (fold (with_row cycle seen breach) survey (map extent_of list)) n
+keeps cycle seen breach [] survey n b = b
+keeps cycle seen breach (r ∷ rs) survey n b =
+    keeps cycle seen breach rs (with_row cycle seen breach survey (extent_of r)) n
+    (still cycle.lift survey.whole survey.least survey.most n (extent_of r) (is_whole cycle seen (extent_of r)) b)
+
+bounded : (cycle : Cycle) (seen : Seen) (breach : Option ℕ) (list : List Row) (survey : Survey) (row : Row) → In row list
+    → is_whole cycle seen (extent_of row) ≡ true
+    → Bound (fold (with_row cycle seen breach) survey (map extent_of list)) (length_of cycle.lift (extent_of row))
+bounded cycle seen breach [] survey row i e = absurd i
+bounded cycle seen breach (r ∷ rs) survey row (inl same) e =
+    let whole : is_whole cycle seen (extent_of r) ≡ true = subst (λ (y : Row). is_whole cycle seen (extent_of y) ≡ true) same e in
+    subst (λ (y : Row). Bound (fold (with_row cycle seen breach) (with_row cycle seen breach survey (extent_of r)) (map extent_of rs)) (length_of cycle.lift (extent_of y)))
     (sym same)
-    (keeps cycle breach rs (with_row cycle breach survey (extent_of r)) (length_of cycle.lift (extent_of r)) (here cycle breach survey (extent_of r)))
-bounded cycle breach (r ∷ rs) survey row (inr i) = bounded cycle breach rs (with_row cycle breach survey (extent_of r)) row i
+    (keeps cycle seen breach rs (with_row cycle seen breach survey (extent_of r)) (length_of cycle.lift (extent_of r))
+    (here cycle.lift survey.whole survey.least survey.most (extent_of r) (is_whole cycle seen (extent_of r)) whole))
+bounded cycle seen breach (r ∷ rs) survey row (inr i) e = bounded cycle seen breach rs (with_row cycle seen breach survey (extent_of r)) row i e
 
 pub lengths_bound : LengthsAreOfRows
-lengths_bound table window list breach row i =
-    let b = bounded (cycle_of table) breach (rows table window list) (nothing (cycle_of table)) row i in
-    (b.least, b.most)
+lengths_bound table window list seen breach row i e =
+    let b = bounded (cycle_of table) seen breach (rows table window list) (nothing (cycle_of table)) row i e in
+    (b.low, b.high)
 
--- ---- a row has each of the two lengths
--- some row of a list has this length
-record HasLength (cycle : Cycle) (list : List Row) (n : ℕ) : Type 0 where
+-- ---- a whole row has each of the two lengths
+-- some whole row of a list has this length
+record HasLength (cycle : Cycle) (seen : Seen) (list : List Row) (n : ℕ) : Type 0 where
   row : Row
   one : In row list
+  whole : is_whole cycle seen (extent_of row) ≡ true
   long : length_of cycle.lift (extent_of row) ≡ n
 
-is_length : (cycle : Cycle) (list : List Row) (row : Row) (n : ℕ) → In row list → n ≡ length_of cycle.lift (extent_of row) → HasLength cycle list n
-is_length cycle list row n i e = record { row = row; one = i; long = sym e }
+-- so have some of these, where there are whole ones
+record Reached (cycle : Cycle) (seen : Seen) (all : List Row) (whole least most : ℕ) : Type 0 where
+  none : whole ≡ 0 → most ≡ 0
+  low : 0 < whole → HasLength cycle seen all least
+  high : 0 < whole → HasLength cycle seen all most
 
-least_choice : (lift count least : ℕ) (row : Extent) → 0 < count → (least_with lift count least row ≡ least) ⊎ (least_with lift count least row ≡ length_of lift row)
-least_choice lift count least row some =
-    let test : eqb count 0 ≡ false = ne_eqb count 0 (λ e. omega arith) in
-    let is : least_with lift count least row ≡ min least (length_of lift row) = ap (λ b. cond b (length_of lift row) (min least (length_of lift row))) test in
+is_length : (cycle : Cycle) (seen : Seen) (list : List Row) (row : Row) (n : ℕ) → In row list → is_whole cycle seen (extent_of row) ≡ true
+    → n ≡ length_of cycle.lift (extent_of row) → HasLength cycle seen list n
+is_length cycle seen list row n i w e = record { row = row; one = i; whole = w; long = sym e }
+
+least_choice : (lift whole least : ℕ) (row : Extent) → 0 < whole → (least_with lift whole least row ≡ least) ⊎ (least_with lift whole least row ≡ length_of lift row)
+least_choice lift whole least row some =
+    let test : eqb whole 0 ≡ false = ne_eqb whole 0 (λ e. omega arith) in
+    let is : least_with lift whole least row ≡ min least (length_of lift row) = ap (λ b. cond b (length_of lift row) (min least (length_of lift row))) test in
     elim (cases_lt least (length_of lift row)) [ inl less ↦ inl (omega arith) | inr more ↦ inr (omega arith) ]
 
 most_choice : (most n : ℕ) → (max most n ≡ most) ⊎ (max most n ≡ n)
 most_choice most n = elim (cases_lt most n) [ inl less ↦ inr (omega arith) | inr more ↦ inl (omega arith) ]
 
-least_reached : (cycle : Cycle) (all : List Row) (survey : Survey) (row : Row) → In row all → 0 < survey.count → HasLength cycle all survey.least
-    → HasLength cycle all (least_with cycle.lift survey.count survey.least (extent_of row))
-least_reached cycle all survey row i some h =
-    elim (least_choice cycle.lift survey.count survey.least (extent_of row) some) [
-      | inl was ↦ subst (HasLength cycle all) (sym was) h
-      | inr now ↦ is_length cycle all row (least_with cycle.lift survey.count survey.least (extent_of row)) i now
+taken : (cycle : Cycle) (seen : Seen) (all : List Row) (row : Row) (whole least most : ℕ) → In row all → is_whole cycle seen (extent_of row) ≡ true
+    → Reached cycle seen all whole least most
+    → Reached cycle seen all (whole + 1) (least_with cycle.lift whole least (extent_of row)) (max most (length_of cycle.lift (extent_of row)))
+taken cycle seen all row whole least most i w h =
+    let long : ℕ = length_of cycle.lift (extent_of row) in
+    let low : ℕ = least_with cycle.lift whole least (extent_of row) in
+    elim (cases_lt 0 whole) [
+      | inl some ↦ record {
+        none = λ e. absurd (omega arith);
+        low = λ _. elim (least_choice cycle.lift whole least (extent_of row) some) [
+          | inl was ↦ subst (HasLength cycle seen all) (sym was) (h.low some)
+          | inr now ↦ is_length cycle seen all row low i w now
+        ];
+        high = λ _. elim (most_choice most long) [
+          | inl was ↦ subst (HasLength cycle seen all) (sym was) (h.high some)
+          | inr now ↦ is_length cycle seen all row (max most long) i w now
+        ];
+      }
+      | inr no ↦
+          let zero : whole ≡ 0 = omega arith in
+          let test : eqb whole 0 ≡ true = eq-eqb whole 0 zero in
+          let low_is : low ≡ long = ap (λ b. cond b long (min least long)) test in
+          let none : most ≡ 0 = h.none zero in
+          let high_is : max most long ≡ long = omega arith in
+          record {
+            none = λ e. absurd (omega arith);
+            low = λ _. is_length cycle seen all row low i w low_is;
+            high = λ _. is_length cycle seen all row (max most long) i w high_is;
+          }
     ]
 
-most_reached : (cycle : Cycle) (all : List Row) (survey : Survey) (row : Row) → In row all → HasLength cycle all survey.most
-    → HasLength cycle all (max survey.most (length_of cycle.lift (extent_of row)))
-most_reached cycle all survey row i h =
-    elim (most_choice survey.most (length_of cycle.lift (extent_of row))) [
-      | inl was ↦ subst (HasLength cycle all) (sym was) h
-      | inr now ↦ is_length cycle all row (max survey.most (length_of cycle.lift (extent_of row))) i now
-    ]
+reached_step : (cycle : Cycle) (seen : Seen) (all : List Row) (row : Row) (whole least most : ℕ) (t : Bool) → In row all
+    → is_whole cycle seen (extent_of row) ≡ t → Reached cycle seen all whole least most
+    → Reached cycle seen all (cond t (whole + 1) whole) (cond t (least_with cycle.lift whole least (extent_of row)) least)
+    (cond t (max most (length_of cycle.lift (extent_of row))) most)
+reached_step cycle seen all row whole least most true i w h = taken cycle seen all row whole least most i w h
+reached_step cycle seen all row whole least most false i w h = h
 
-reached_from : (cycle : Cycle) (breach : Option ℕ) (all list : List Row) (survey : Survey) → ((row : Row) → In row list → In row all) → 0 < survey.count
-    → HasLength cycle all survey.least → HasLength cycle all survey.most
-    → HasLength cycle all (fold (with_row cycle breach) survey (map extent_of list)).least × HasLength cycle all (fold (with_row cycle breach) survey (map extent_of list)).most
-reached_from cycle breach all [] survey among some least most = (least, most)
-reached_from cycle breach all (r ∷ rs) survey among some least most =
-    reached_from cycle breach all rs (with_row cycle breach survey (extent_of r)) (λ row i. among row (inr i)) (omega arith)
-    (least_reached cycle all survey r (among r (inl refl)) some least) (most_reached cycle all survey r (among r (inl refl)) most)
+reached_from : (cycle : Cycle) (seen : Seen) (breach : Option ℕ) (all list : List Row) (survey : Survey) → ((row : Row) → In row list → In row all)
+    → Reached cycle seen all survey.whole survey.least survey.most
+    → Reached cycle seen all (fold (with_row cycle seen breach) survey (map extent_of list)).whole
+    (fold (with_row cycle seen breach) survey (map extent_of list)).least (fold (with_row cycle seen breach) survey (map extent_of list)).most
+reached_from cycle seen breach all [] survey among h = h
+reached_from cycle seen breach all (r ∷ rs) survey among h =
+    reached_from cycle seen breach all rs (with_row cycle seen breach survey (extent_of r)) (λ row i. among row (inr i))
+    (reached_step cycle seen all r survey.whole survey.least survey.most (is_whole cycle seen (extent_of r)) (among r (inl refl)) refl h)
 
-reached : (cycle : Cycle) (breach : Option ℕ) (list : List Row) → 0 < length list
-    → HasLength cycle list (fold (with_row cycle breach) (nothing cycle) (map extent_of list)).least
-    × HasLength cycle list (fold (with_row cycle breach) (nothing cycle) (map extent_of list)).most
-reached cycle breach [] some = absurd (omega arith)
-reached cycle breach (r ∷ rs) some =
-    let first : Survey = with_row cycle breach (nothing cycle) (extent_of r) in
-    let long : ℕ = length_of cycle.lift (extent_of r) in
-    reached_from cycle breach (r ∷ rs) rs first (λ row i. inr i) (omega arith)
-    (is_length cycle (r ∷ rs) r long (inl refl) refl) (is_length cycle (r ∷ rs) r (max 0 long) (inl refl) (omega arith))
+pub rows_have_lengths : RowsHaveLengths
+rows_have_lengths table window list seen breach some =
+    let cycle : Cycle = cycle_of table in
+    let first : Reached cycle seen (rows table window list) 0 0 0 =
+    record { none = λ e. refl; low = λ h. absurd (omega arith); high = λ h. absurd (omega arith) } in
+    let found = reached_from cycle seen breach (rows table window list) (rows table window list) (nothing cycle) (λ row i. i) first in
+    let least = found.low some in
+    let most = found.high some in (
+      record { row = least.row; one = least.one; whole = least.whole; long = least.long },
+      record { row = most.row; one = most.one; whole = most.whole; long = most.long },
+    )
 
--- each is counted
-counted : (cycle : Cycle) (breach : Option ℕ) (list : List Row) (survey : Survey)
-    → (fold (with_row cycle breach) survey (map extent_of list)).count ≡ survey.count + length list
-counted cycle breach [] survey = let same : survey.count ≡ survey.count + 0 = omega arith in same
-counted cycle breach (r ∷ rs) survey =
-    let rest : (fold (with_row cycle breach) (with_row cycle breach survey (extent_of r)) (map extent_of rs)).count ≡ survey.count + 1 + length rs
-    = counted cycle breach rs (with_row cycle breach survey (extent_of r)) in
+-- ---- each is counted
+counted : (cycle : Cycle) (seen : Seen) (breach : Option ℕ) (list : List Row) (survey : Survey)
+    → (fold (with_row cycle seen breach) survey (map extent_of list)).count ≡ survey.count + length list
+counted cycle seen breach [] survey = let same : survey.count ≡ survey.count + 0 = omega arith in same
+counted cycle seen breach (r ∷ rs) survey =
+    let rest : (fold (with_row cycle seen breach) (with_row cycle seen breach survey (extent_of r)) (map extent_of rs)).count ≡ survey.count + 1 + length rs
+    = counted cycle seen breach rs (with_row cycle seen breach survey (extent_of r)) in
     rest ∙ (let e : survey.count + 1 + length rs ≡ survey.count + length (r ∷ rs) = omega arith in e)
 
 pub rows_are_counted : RowsAreCounted
-rows_are_counted table window list breach =
-    counted (cycle_of table) breach (rows table window list) (nothing (cycle_of table))
+rows_are_counted table window list seen breach =
+    counted (cycle_of table) seen breach (rows table window list) (nothing (cycle_of table))
     ∙ (let e : 0 + length (rows table window list) ≡ length (rows table window list) = omega arith in e)
 
-pub rows_have_lengths : RowsHaveLengths
-rows_have_lengths table window list breach some =
-    let found = reached (cycle_of table) breach (rows table window list) some in
-    let least = found.0 in
-    let most = found.1 in
-    (record { row = least.row; one = least.one; long = least.long }, record { row = most.row; one = most.one; long = most.long })
+whole_step : (t : Bool) (whole : ℕ) (r : Row) (rs : List Row) → cond t (whole + 1) whole + length rs ≡ whole + length (cond t (r ∷ rs) rs)
+whole_step true whole r rs = let e : whole + 1 + length rs ≡ whole + length (r ∷ rs) = omega arith in e
+whole_step false whole r rs = refl
+
+whole_from : (cycle : Cycle) (seen : Seen) (breach : Option ℕ) (list : List Row) (survey : Survey)
+    → (fold (with_row cycle seen breach) survey (map extent_of list)).whole ≡ survey.whole + length (filter (λ (r : Row). is_whole cycle seen (extent_of r)) list)
+whole_from cycle seen breach [] survey = let same : survey.whole ≡ survey.whole + 0 = omega arith in same
+whole_from cycle seen breach (r ∷ rs) survey =
+    whole_from cycle seen breach rs (with_row cycle seen breach survey (extent_of r))
+    ∙ whole_step (is_whole cycle seen (extent_of r)) survey.whole r (filter (λ (r : Row). is_whole cycle seen (extent_of r)) rs)
+
+pub whole_are_counted : WholeAreCounted
+whole_are_counted table window list seen breach =
+    let cycle : Cycle = cycle_of table in
+    let test : Row → Bool = λ (r : Row). is_whole cycle seen (extent_of r) in
+    let all : List Row = rows table window list in
+    whole_from cycle seen breach all (nothing cycle)
+    ∙ (let e : 0 + length (filter test all) ≡ length (filter test all) = omega arith in e) ∙ length-filter test all

@@ -5,6 +5,8 @@ pub mod AscendLemmas
 pub mod SurveyLemmas
 pub mod DrawLemmas
 pub mod WriteLemmas
+pub mod CutLemmas
+pub mod DueLemmas
 pub mod CycleLemmas
 pub mod CoverLemmas
 pub mod BreachLemmas

@@ -14,7 +14,7 @@ use Rattle.bus_cycles.specs.Rows.{rows}
 use Rattle.bus_cycles.specs.Surveys.{is_drawn}
 
 -- ---- what is put of one of many is a part of what is put of all
-part_of : {X : Type 0} (f : X → List ℕ) (xs : List X) (x : X) → In x xs → IsPartOf (f x) (flat_map f xs)
+pub part_of : {X : Type 0} (f : X → List ℕ) (xs : List X) (x : X) → In x xs → IsPartOf (f x) (flat_map f xs)
 part_of f [] x i = absurd i
 part_of f (y ∷ ys) x (inl same) = record { front = []; back = flat_map f ys; whole_is = ap (λ z. f z ++ flat_map f ys) (sym same) }
 part_of f (y ∷ ys) x (inr i) =

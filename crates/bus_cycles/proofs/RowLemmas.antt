@@ -1,5 +1,5 @@
 -- What follows of rows.
-use Rattle.std.proofs.Common.{◌≡◌, ◌↔◌, ℕ, zero, suc, ◌+◌, ◌*◌, ◌/◌, ◌%◌, ◌<◌, ◌≤◌, Bool, true, false, cond, eqb, List, [], ◌∷◌, ◌++◌, get_or, inl, inr, arith, sym, refl, ap, subst, ◌∙◌, append_assoc}
+use Rattle.std.proofs.Common.{◌≡◌, ◌↔◌, ℕ, zero, suc, ◌+◌, ◌*◌, ◌/◌, ◌%◌, ◌<◌, ◌≤◌, Bool, true, false, cond, eqb, ltb, List, [], ◌∷◌, ◌++◌, get_or, inl, inr, arith, sym, refl, ap, subst, ◌∙◌, append_assoc}
 use Rattle.std.specs.Prelude.{not, slice_get}
 use Rattle.std.specs.List.{AllByRecursion, flat_map}
 use Rattle.std.proofs.lemmas.Bool.{eqb-true, ne_eqb, true≢false, not-false}
@@ -13,13 +13,14 @@ use Rattle.bus_strings.specs.Transmissions.{garbled}
 use Rattle.bus_table.specs.declared.mode.Mode.TheVariants.{Periodic}
 use Rattle.bus_table.specs.Tables.{Table}
 use Rattle.bus_table.proofs.ValidLaws.{valid_facts}
-use Rattle.bus_shapes.specs.declared.class.Class.TheVariants.{Garbled, Other, Wordstring}
+use Rattle.bus_shapes.specs.declared.class.Class.TheVariants.{Garbled, GarbledNarrow, Other, Wordstring}
+use Rattle.bus_shapes.specs.Classes.{is_hatched}
 use Rattle.bus_shapes.specs.declared.sent.Sent.{Sent}
 use Rattle.bus_trace.specs.Windows.{Window}
 use Rattle.bus_cycles.specs.Laws.{HatchedAreDrawnLast, HatchedAreGarbled, RowsAreAPartition, RowsAreIntervals}
 use Rattle.bus_cycles.specs.Rows.{Cycle, Row, begin_in, cycle_of, interval_of, is_new, is_new_in, lift_of, row_at, rows, rows_from, rows_of, with_sent}
 use Rattle.bus_cycles.specs.Pages.{Page}
-use Rattle.bus_cycles.specs.RowTexts.{class_of, shade}
+use Rattle.bus_cycles.specs.RowTexts.{class_of, garbled_class, shade}
 use Rattle.bus_shapes.specs.Sending.{sent_of, sents}
 use Rattle.bus_shapes.specs.SendingLaws.{IsToldOf}
 use Rattle.bus_shapes.proofs.SendingLaws.{told_from}
@@ -61,34 +62,33 @@ told table window list row sent i j =
       told = same ∙ ap (λ m. sent_of list m r.1) (sym at);
     }
 
-slot_class : (slot : ℕ) → class_of (2 + slot) ≡ Garbled
-slot_class slot =
-    let none : eqb (2 + slot) 0 ≡ false = ne_eqb (2 + slot) 0 (λ e. omega arith) in
-    let other : eqb (2 + slot) 1 ≡ false = ne_eqb (2 + slot) 1 (λ e. omega arith) in
-    ap (λ b. cond b Other (cond (eqb (2 + slot) 1) Wordstring Garbled)) none ∙ ap (λ b. cond b Wordstring Garbled) other
+garbled_hatched : (width : ℕ) → is_hatched (garbled_class width) ≡ true
+garbled_hatched width =
+    elim (ltb width 60) as (λ b. is_hatched (cond b GarbledNarrow Garbled) ≡ true) [ true ↦ refl | false ↦ refl ]
 
-hatched_at : (garbled : Bool) (slot lane : ℕ) → lane < 2 → (class_of (cond garbled (2 + slot) lane) ≡ Garbled) ↔ (garbled ≡ true)
-hatched_at true slot lane h = (λ e. refl, λ e. slot_class slot)
-hatched_at false slot zero h = (λ e. cc, λ e. cc)
-hatched_at false slot (suc zero) h = (λ e. cc, λ e. cc)
-hatched_at false slot (suc (suc n)) h = absurd (omega arith)
+hatched_at : (width : ℕ) (garbled : Bool) (slot lane : ℕ) → lane < 2 → is_hatched (class_of width (cond garbled (2 + slot) lane)) ≡ garbled
+hatched_at width true slot lane low = garbled_hatched width
+hatched_at width false slot zero low = refl
+hatched_at width false slot (suc zero) low = refl
+hatched_at width false slot (suc (suc lane)) low = absurd (omega arith)
 
-hatched_of : (page : Page) (sent : Sent) → (class_of (shade page sent) ≡ Garbled) ↔ (sent.garbled ≡ true)
-hatched_of page sent =
+hatched_of : (page : Page) (sent : Sent) (width : ℕ) → is_hatched (class_of width (shade page sent)) ≡ sent.garbled
+hatched_of page sent width =
     let lane : get_or page.lanes sent.terminal 0 % 2 < 2 = omega arith in
-    hatched_at sent.garbled (sent.at % 3) (get_or page.lanes sent.terminal 0 % 2) lane
+    hatched_at width sent.garbled (get_or page.lanes sent.terminal 0 % 3) (get_or page.lanes sent.terminal 0 % 2) lane
 
 pub hatched : HatchedAreGarbled
-hatched page table window list row sent i j =
+hatched page table window list row sent width i j =
     let t = told table window list row sent i j in
     let mark : sent.garbled ≡ garbled list sent.at = ap (λ (s : Sent). s.garbled) t.told in
-    (t, subst (λ b. (class_of (shade page sent) ≡ Garbled) ↔ (b ≡ true)) mark (hatched_of page sent))
+    (t, hatched_of page sent width ∙ mark)
 
 pub drawn_last : HatchedAreDrawnLast
-drawn_last page true sent due = (λ e. refl, λ e. (hatched_of page sent).1 due)
-drawn_last page false sent due =
-    let plain = (hatched_of page sent).0 in
-    (λ e. absurd (true≢false (sym due ∙ ap not (plain e))), λ e. absurd (true≢false (sym e)))
+drawn_last page true sent width due = hatched_of page sent width ∙ due
+drawn_last page false sent width due = hatched_of page sent width ∙ none sent.garbled due where
+  none : (b : Bool) → not b ≡ true → b ≡ false
+  none true e = absurd cc
+  none false e = refl
 
 -- ---- intervals
 pub within_interval : (ti t : ℕ) → 0 < ti → (t / ti * ti ≤ t) × (t < t / ti * ti + ti)

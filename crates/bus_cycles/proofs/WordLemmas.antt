@@ -15,14 +15,24 @@ on_pixel page begin t within is =
     tens : (a b : ℕ) → a ≤ b → a / 10 * 10 ≤ b
     tens a b h = omega arith
 
+pub pixel_rises : (page : Page) (begin t u : ℕ) → PlacesRise → IsScale page.scale → t ≤ u → pixel page begin t ≤ pixel page begin u
+pixel_rises page begin t u rise is order =
+    let lift : ℕ = page.cycle.lift in
+    let places : place page.scale (t + lift - begin) ≤ place page.scale (u + lift - begin) =
+    rise page.scale (t + lift - begin) (u + lift - begin) is (omega arith) in
+    tens (place page.scale (t + lift - begin)) (place page.scale (u + lift - begin)) places
+  where
+    tens : (a b : ℕ) → a ≤ b → a / 10 * 10 ≤ b / 10 * 10
+    tens a b h = omega arith
+
 all_of : (left right edge : ℕ) → left ≤ edge → right ≤ edge → left + (max right (left + 10) - left) ≤ edge + 10
 all_of left right edge h k = omega arith
 
 pub word_hides_none : PlacesRise → PlacesLieWithin → BreachWordHidesNone
 word_hides_none rise within table survey counts row begin sent is =
     let page : Page = page_of table survey counts in
-    let a : left_of page begin sent ≤ 8500 = on_pixel page begin sent.moment within is in
-    let b : pixel page begin sent.end ≤ 8500 = on_pixel page begin sent.end within is in
-    let c : left_of page begin sent + (right_of page begin sent - left_of page begin sent) ≤ 8510 =
-    all_of (left_of page begin sent) (pixel page begin sent.end) 8500 a b in
+    let a : left_of page begin sent ≤ 8200 = on_pixel page begin sent.moment within is in
+    let b : pixel page begin sent.end ≤ 8200 = on_pixel page begin sent.end within is in
+    let c : left_of page begin sent + (right_of page begin sent - left_of page begin sent) ≤ 8210 =
+    all_of (left_of page begin sent) (pixel page begin sent.end) 8200 a b in
     omega (arith, c)

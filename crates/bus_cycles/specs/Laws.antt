@@ -1,5 +1,5 @@
 -- What follows of the definitions. The contracts of `laws` say that each of these holds.
-use Rattle.std.specs.Prelude.{◌≡◌, ◌≢◌, ◌⊎◌, ◌↔◌, ℕ, ◌+◌, ◌-◌, ◌<◌, ◌≤◌, Bool, true, false, not, IsTrue, List, [], ◌∷◌, ◌++◌, length}
+use Rattle.std.specs.Prelude.{◌≡◌, ◌≢◌, ◌⊎◌, ◌↔◌, ℕ, ◌+◌, ◌-◌, ◌*◌, ◌/◌, ◌<◌, ◌≤◌, Bool, true, false, not, IsTrue, List, [], ◌∷◌, ◌++◌, length}
 use Rattle.std.specs.Prelude.{slice_get, filter, Option, Some, if◌then◌else◌, ⊤}
 use Rattle.std.specs.List.{AllByRecursion, count_by, flat_map, sum_by}
 use Rattle.bus_strings.specs.Members.{In}
@@ -7,10 +7,13 @@ use Rattle.bus_strings.specs.Messages.{Entry}
 use Rattle.bus_strings.specs.Transmissions.{garbled}
 use Rattle.bus_table.specs.declared.mode.Mode.TheVariants.{Aperiodic, Periodic}
 use Rattle.bus_table.specs.Tables.{Sender, Table}
+use Rattle.bus_table.specs.Timers.{due_of}
 use Rattle.bus_table.specs.Turns.{turn_order}
 use Rattle.bus_table.specs.Valid.{is_valid}
 use Rattle.bus_trace.specs.Traces.{Recording, IsTrace}
-use Rattle.bus_shapes.specs.declared.class.Class.TheVariants.{Garbled}
+use Rattle.bus_shapes.specs.Classes.{is_hatched}
+use Rattle.bus_shapes.specs.declared.class.Class.TheVariants.{Tick}
+use Rattle.bus_shapes.specs.Shapes.{box_text}
 use Rattle.bus_shapes.specs.declared.sent.Sent.{Sent}
 use Rattle.bus_shapes.specs.declared.area.Area.{Area}
 use Rattle.bus_shapes.specs.declared.counts.Counts.{Counts}
@@ -20,14 +23,22 @@ use Rattle.bus_trace.specs.Windows.{Window}
 use Rattle.bus_findings.specs.declared.judgement.Judgement.{Judgement}
 use Rattle.bus_findings.specs.Terminals.{fault_sum, is_faulty}
 use Rattle.bus_cycles.specs.CyclesTexts.{part_above, part_below}
+use Rattle.bus_cycles.specs.Dues.{due_line, dues_text}
 use Rattle.bus_cycles.specs.Faults.{fault_at, faults_of, lower_part, upper_part}
 use Rattle.bus_cycles.specs.Loads.{busy_of, whole_of}
 use Rattle.bus_cycles.specs.Measures.{breach_left}
-use Rattle.bus_cycles.specs.Pages.{Page, page_of, scale_of}
+use Rattle.bus_cycles.specs.Pages.{Page, page_of, scale_of, top_of}
+use Rattle.bus_cycles.specs.Cuts.{Seen, is_cut_before, is_cut_behind, is_whole}
 use Rattle.bus_cycles.specs.Rows.{Cycle, Extent, Row, cycle_of, extent_of, interval_of, rows, takes}
-use Rattle.bus_cycles.specs.RowTexts.{area_of, boxes, class_of, is_due, is_left_out, left_of, right_of, sent_text, shade, where_drawn}
+use Rattle.bus_cycles.specs.RowTexts.{area_of, before_area, before_text, behind_area, behind_text, boxes, class_of, is_due, is_left_out, left_of, right_of, sent_text, shade, where_drawn}
 use Rattle.bus_cycles.specs.Sents.{shown}
 use Rattle.bus_cycles.specs.Surveys.{Survey, counts, is_drawn, length_of, survey_of}
+
+-- A part of a text.
+pub record IsPartOf (part whole : List ℕ) : Type 0 where
+  pub front : List ℕ
+  pub back : List ℕ
+  pub whole_is : whole ≡ front ++ part ++ back
 
 -- The rows of a window are a partition: their transmissions, one behind the other, are exactly those that begin in it, in order.
 abbrev pub RowsAreAPartition : Type 0
@@ -37,8 +48,9 @@ RowsAreAPartition =
 -- Each transmission of a row is an entry of the list, and is hatched exactly where that is garbled.
 abbrev pub HatchedAreGarbled : Type 0
 HatchedAreGarbled =
-    (page : Page) (table : Table) (window : Window) (list : List Entry) (row : Row) (sent : Sent) → In row (rows table window list)
-    → In sent row.sents → IsToldOf list sent × ((class_of (shade page sent) ≡ Garbled) ↔ (garbled list sent.at ≡ true))
+    (page : Page) (table : Table) (window : Window) (list : List Entry) (row : Row) (sent : Sent) (width : ℕ)
+    → In row (rows table window list) → In sent row.sents
+    → IsToldOf list sent × (is_hatched (class_of width (shade page sent)) ≡ garbled list sent.at)
 
 -- In periodic mode each transmission of a row begins in the interval that begins with the row.
 abbrev pub RowsAreIntervals : Type 0
@@ -81,7 +93,8 @@ RowsAscend =
 -- A walk draws hatched boxes exactly where it is that for what is garbled, so that all of these are drawn after all others.
 abbrev pub HatchedAreDrawnLast : Type 0
 HatchedAreDrawnLast =
-    (page : Page) (garbled : Bool) (sent : Sent) → IsTrue (is_due garbled sent) → (class_of (shade page sent) ≡ Garbled) ↔ (garbled ≡ true)
+    (page : Page) (garbled : Bool) (sent : Sent) (width : ℕ) → IsTrue (is_due garbled sent)
+    → is_hatched (class_of width (shade page sent)) ≡ garbled
 
 -- Each transmission is due in exactly one of the two walks.
 abbrev pub EachIsDueOnce : Type 0
@@ -117,11 +130,19 @@ NeighboursDiffer =
 abbrev pub LiesAbove : Area → Area → Type 0
 LiesAbove one other = one.top + one.height ≤ other.top
 
--- Of any three transmissions of a list, one behind the other, that are garbled, no box meets another one of the same row.
+-- A terminal keeps its slot: its garbled transmissions lie at the same height in all rows, and so do those that aren't.
+abbrev pub SlotsAreKept : Type 0
+SlotsAreKept =
+    (page : Page) (row row' begin begin' : ℕ) (one other : Sent) → one.terminal ≡ other.terminal → one.garbled ≡ other.garbled
+    → ((area_of page row begin one).top + top_of page row' ≡ (area_of page row' begin' other).top + top_of page row)
+    × ((area_of page row begin one).height ≡ (area_of page row' begin' other).height)
+
+-- Of any three senders, one behind the other in turn order, no two boxes of what is garbled meet in a row.
 abbrev pub ThreeLieApart : Type 0
 ThreeLieApart =
-    (table : Table) (survey : Survey) (counts : Counts) (row begin : ℕ) (one other : Sent) → one.garbled ≡ true → other.garbled ≡ true
-    → one.at < other.at → other.at < one.at + 3
+    (table : Table) (survey : Survey) (counts : Counts) (row begin k m : ℕ) (a b : Sender) (one other : Sent) → IsTrue (is_valid table)
+    → k < m → m < k + 3 → slice_get (turn_order table) k ≡ Some a → slice_get (turn_order table) m ≡ Some b
+    → one.terminal ≡ a.number → other.terminal ≡ b.number → one.garbled ≡ true → other.garbled ≡ true
     → LiesAbove (area_of (page_of table survey counts) row begin one) (area_of (page_of table survey counts) row begin other)
     ⊎ LiesAbove (area_of (page_of table survey counts) row begin other) (area_of (page_of table survey counts) row begin one)
 
@@ -138,12 +159,6 @@ BreachWordHidesNone =
     (table : Table) (survey : Survey) (counts : Counts) (row begin : ℕ) (sent : Sent) → IsScale (scale_of survey)
     → (area_of (page_of table survey counts) row begin sent).left + (area_of (page_of table survey counts) row begin sent).width
     ≤ breach_left
-
--- A part of a text.
-pub record IsPartOf (part whole : List ℕ) : Type 0 where
-  pub front : List ℕ
-  pub back : List ℕ
-  pub whole_is : whole ≡ front ++ part ++ back
 
 -- Each transmission at which a fault is found has its mark in the row that is drawn of it, with what is found.
 abbrev pub FaultsAreMarked : Type 0
@@ -174,32 +189,88 @@ FaultHidesNone =
     → IsSeenBetween (upper_part (page_of table survey counts) left row) (lower_part (page_of table survey counts) left row)
     (area_of (page_of table survey counts) row begin sent)
 
--- No row is shorter than the least length that is told, or longer than the greatest.
+-- No whole row is shorter than the least length that is told, or longer than the greatest.
 abbrev pub LengthsAreOfRows : Type 0
 LengthsAreOfRows =
-    (table : Table) (window : Window) (list : List Entry) (breach : Option ℕ) (row : Row) → In row (rows table window list)
-    → ((survey_of (cycle_of table) breach (shown window list)).least ≤ length_of (cycle_of table).lift (extent_of row))
-    × (length_of (cycle_of table).lift (extent_of row) ≤ (survey_of (cycle_of table) breach (shown window list)).most)
+    (table : Table) (window : Window) (list : List Entry) (seen : Seen) (breach : Option ℕ) (row : Row) → In row (rows table window list)
+    → IsTrue (is_whole (cycle_of table) seen (extent_of row))
+    → ((survey_of (cycle_of table) seen breach (shown window list)).least ≤ length_of (cycle_of table).lift (extent_of row))
+    × (length_of (cycle_of table).lift (extent_of row) ≤ (survey_of (cycle_of table) seen breach (shown window list)).most)
 
--- A row of a window has this length.
-pub record IsLengthOfRow (table : Table) (window : Window) (list : List Entry) (length : ℕ) : Type 0 where
+-- A whole row of a window has this length.
+pub record IsLengthOfRow (table : Table) (window : Window) (list : List Entry) (seen : Seen) (length : ℕ) : Type 0 where
   pub row : Row
   pub one : In row (rows table window list)
+  pub whole : IsTrue (is_whole (cycle_of table) seen (extent_of row))
   pub long : length_of (cycle_of table).lift (extent_of row) ≡ length
 
--- Where there are rows, one has the least length that is told, and one has the greatest.
+-- Where some row is told to be whole, a whole one has the least length that is told, and one has the greatest.
 abbrev pub RowsHaveLengths : Type 0
 RowsHaveLengths =
-    (table : Table) (window : Window) (list : List Entry) (breach : Option ℕ)
-    → 0 < length (rows table window list)
-    → IsLengthOfRow table window list (survey_of (cycle_of table) breach (shown window list)).least
-    × IsLengthOfRow table window list (survey_of (cycle_of table) breach (shown window list)).most
+    (table : Table) (window : Window) (list : List Entry) (seen : Seen) (breach : Option ℕ)
+    → 0 < (survey_of (cycle_of table) seen breach (shown window list)).whole
+    → IsLengthOfRow table window list seen (survey_of (cycle_of table) seen breach (shown window list)).least
+    × IsLengthOfRow table window list seen (survey_of (cycle_of table) seen breach (shown window list)).most
 
 -- The rows are counted.
 abbrev pub RowsAreCounted : Type 0
 RowsAreCounted =
-    (table : Table) (window : Window) (list : List Entry) (breach : Option ℕ)
-    → (survey_of (cycle_of table) breach (shown window list)).count ≡ length (rows table window list)
+    (table : Table) (window : Window) (list : List Entry) (seen : Seen) (breach : Option ℕ)
+    → (survey_of (cycle_of table) seen breach (shown window list)).count ≡ length (rows table window list)
+
+-- And so are those that are whole.
+abbrev pub WholeAreCounted : Type 0
+WholeAreCounted =
+    (table : Table) (window : Window) (list : List Entry) (seen : Seen) (breach : Option ℕ)
+    → (survey_of (cycle_of table) seen breach (shown window list)).whole
+    ≡ count_by (λ (row : Row). is_whole (cycle_of table) seen (extent_of row)) (rows table window list)
+
+-- A row is drawn open exactly where it is cut.
+abbrev pub CutAreOpen : Type 0
+CutAreOpen =
+    (page : Page) (row : Extent)
+    → ((before_text page row ≢ []) ↔ IsTrue (is_cut_before page.cycle page.seen row))
+    × ((behind_text page row ≢ []) ↔ IsTrue (is_cut_behind page.cycle page.seen row))
+
+-- Where a row is drawn open it hides none of its boxes: it is so left of them, and right of them.
+abbrev pub OpenHidesNone : Type 0
+OpenHidesNone =
+    (table : Table) (survey : Survey) (counts : Counts) (row : Row) (sent : Sent) → IsScale (scale_of survey) → In sent row.sents
+    → sent.moment ≤ sent.end
+    → ((before_area (page_of table survey counts) row.place).left + (before_area (page_of table survey counts) row.place).width
+    ≤ (area_of (page_of table survey counts) row.place row.begin sent).left)
+    × ((area_of (page_of table survey counts) row.place row.begin sent).left
+    + (area_of (page_of table survey counts) row.place row.begin sent).width
+    ≤ (behind_area (page_of table survey counts) (extent_of row)).left)
+
+-- In aperiodic mode a whole row has its cycle from the first transmission to the last: the first comes a synchronization gap or more behind
+-- the end of an earlier one and of all, and a synchronization gap or more is seen behind the end of the last.
+abbrev pub WholeAreSeen : Type 0
+WholeAreSeen =
+    (table : Table) (window : Window) (list : List Entry) (seen : Seen) (row : Row) (first : Sent) (others : List Sent)
+    → IsTrue (is_valid table) → table.mode ≡ Aperiodic → In row (rows table window list) → row.sents ≡ first ∷ others
+    → IsTrue (is_whole (cycle_of table) seen (extent_of row))
+    → (0 < first.before) × (first.before + table.sg ≤ first.moment) × ((extent_of row).end + table.sg ≤ seen.to)
+
+-- In periodic mode each sender has a line at the place of the moment at which it is due, counted from the beginning of a row; and there the
+-- box of a transmission begins, on a whole pixel, that begins when it is due.
+abbrev pub DuesAreMarked : Type 0
+DuesAreMarked =
+    (table : Table) (survey : Survey) (counts : Counts) (sender : Sender) → In sender table.senders → table.mode ≡ Periodic
+    → IsPartOf (box_text Tick (due_line (page_of table survey counts) (due_of table sender))) (dues_text (page_of table survey counts) table)
+
+abbrev pub BoxesBeginWhereDue : Type 0
+BoxesBeginWhereDue =
+    (table : Table) (survey : Survey) (counts : Counts) (sender : Sender) (begin : ℕ) (sent : Sent) → table.mode ≡ Periodic
+    → sent.moment ≡ begin + due_of table sender
+    → left_of (page_of table survey counts) begin sent ≡ (due_line (page_of table survey counts) (due_of table sender)).left / 10 * 10
+
+-- A row says which terminals send the first and the last of its transmissions.
+abbrev pub EndsAreNamed : Type 0
+EndsAreNamed =
+    (table : Table) (window : Window) (list : List Entry) (row : Row) (front back : List Sent) (first last : Sent)
+    → In row (rows table window list) → row.sents ≡ first ∷ back → row.sents ≡ front ++ last ∷ []
+    → (row.first ≡ first.terminal) × (row.last ≡ last.terminal)
 
 -- No row is busy for more bit times than it has, so that no load passes 100 %.
 abbrev pub LoadsAreShares : Type 0
@@ -236,35 +307,35 @@ LeftOutAreCovered =
     → is_left_out page row.begin earlier sent ≡ true → IsCovered page row.begin earlier sent
 
 -- What is told of the rows of a window with a breach at this moment.
-abbrev pub survey_with : Table → Window → List Entry → ℕ → Survey
-survey_with table window list moment = survey_of (cycle_of table) (Some moment) (shown window list)
+abbrev pub survey_with : Table → Window → List Entry → Seen → ℕ → Survey
+survey_with table window list seen moment = survey_of (cycle_of table) seen (Some moment) (shown window list)
 
 -- The breach stands at its moment in the row of this extent: the row has begun by then, the scale holds the moment, and so does the row's
 -- interval in periodic mode.
-pub record IsAtItsMoment (table : Table) (window : Window) (list : List Entry) (moment : ℕ) (extent : Extent) : Type 0 where
+pub record IsAtItsMoment (table : Table) (window : Window) (list : List Entry) (seen : Seen) (moment : ℕ) (extent : Extent) : Type 0 where
   pub row : Row
   pub one : In row (rows table window list)
   pub extent_is : extent ≡ extent_of row
   pub begun : extent.begin ≤ moment + (cycle_of table).lift
-  pub held : moment + (cycle_of table).lift - extent.begin ≤ (scale_of (survey_with table window list moment)).to
+  pub held : moment + (cycle_of table).lift - extent.begin ≤ (scale_of (survey_with table window list seen moment)).to
   pub within : table.mode ≡ Periodic → moment < extent.begin + table.ti
 
 -- A breach that is drawn stands at its moment.
 abbrev pub BreachIsAtItsMoment : Type 0
 BreachIsAtItsMoment =
-    (table : Table) (window : Window) (list : List Entry) (moment : ℕ) (extent : Extent) → IsTrue (is_valid table)
-    → (survey_with table window list moment).marked ≡ Some extent → IsTrue (is_drawn extent.place)
-    → IsAtItsMoment table window list moment extent
+    (table : Table) (window : Window) (list : List Entry) (seen : Seen) (moment : ℕ) (extent : Extent) → IsTrue (is_valid table)
+    → (survey_with table window list seen moment).marked ≡ Some extent → IsTrue (is_drawn extent.place)
+    → IsAtItsMoment table window list seen moment extent
 
 -- A row is marked that doesn't begin before this one.
-pub record IsMarkedBehind (table : Table) (window : Window) (list : List Entry) (moment : ℕ) (row : Row) : Type 0 where
+pub record IsMarkedBehind (table : Table) (window : Window) (list : List Entry) (seen : Seen) (moment : ℕ) (row : Row) : Type 0 where
   pub extent : Extent
-  pub marked : (survey_with table window list moment).marked ≡ Some extent
+  pub marked : (survey_with table window list seen moment).marked ≡ Some extent
   pub last : row.begin ≤ extent.begin
 
 -- Where rows take the moment of a breach that the window has, one is marked, and none of them begins later.
 abbrev pub TheLastRowIsMarked : Type 0
 TheLastRowIsMarked =
-    (table : Table) (window : Window) (trace : Recording) (moment : ℕ) (row : Row) → IsTrue (is_valid table) → IsTrace trace
+    (table : Table) (window : Window) (trace : Recording) (seen : Seen) (moment : ℕ) (row : Row) → IsTrue (is_valid table) → IsTrace trace
     → In row (rows table window trace.list) → IsTrue (takes (cycle_of table) (extent_of row) moment)
-    → IsMarkedBehind table window trace.list moment row
+    → IsMarkedBehind table window trace.list seen moment row

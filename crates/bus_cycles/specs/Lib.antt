@@ -2,12 +2,14 @@
 pub mod Measures
 pub mod Sents
 pub mod Rows
+pub mod Cuts
 pub mod Surveys
 pub mod Lanes
 pub mod Pages
 pub mod RowTexts
 pub mod Loads
 pub mod Faults
+pub mod Dues
 pub mod CyclesTexts
 pub mod Laws
 pub mod inside

@@ -3,11 +3,11 @@
 use Rattle.std.specs.Prelude.{ℕ, ◌+◌, ◌-◌, max, List}
 use Rattle.std.specs.List.{flat_map}
 use Rattle.bus_strings.specs.Messages.{Entry}
-use Rattle.bus_strings.specs.Shares.{share_text, tenths}
 use Rattle.bus_load.specs.Loads.{carrier_bits}
 use Rattle.bus_table.specs.declared.mode.Mode.{Mode}
 use Rattle.bus_table.specs.declared.mode.Mode.TheVariants.{Aperiodic, Periodic}
 use Rattle.bus_shapes.specs.declared.class.Class.TheVariants.{Detail}
+use Rattle.bus_shapes.specs.Numbers.{load_words}
 use Rattle.bus_shapes.specs.Shapes.{words_text}
 use Rattle.bus_cycles.specs.Measures.{load_right}
 use Rattle.bus_cycles.specs.Pages.{Page}
@@ -30,7 +30,7 @@ busy_of cycle list row = carrier_bits list (row.begin - cycle.lift) (row.begin +
 
 -- The share of its bit times that are so many, in words, at the right end of a row.
 abbrev pub share_words : Page → Extent → ℕ → List ℕ
-share_words page row busy = words_text Detail load_right (line_of page row.place) (share_text (tenths busy (whole_of page.cycle row)))
+share_words page row busy = words_text Detail load_right (line_of page row.place) (load_words busy (whole_of page.cycle row))
 
 -- The load of a row of a list, given where the row is, where it is drawn.
 abbrev pub load_at : Page → List Entry → Extent → List ℕ

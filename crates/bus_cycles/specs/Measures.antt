@@ -7,7 +7,7 @@ plot_left = 1500
 
 -- Their width.
 abbrev pub plot_width : ℕ
-plot_width = 7000
+plot_width = 6700
 
 -- Where the moments end at which rows begin.
 abbrev pub begins_right : ℕ
@@ -15,7 +15,7 @@ begins_right = 1440
 
 -- Where the loads of rows end.
 abbrev pub load_right : ℕ
-load_right = 9400
+load_right = 9540
 
 -- The line of the numbers of microseconds.
 abbrev pub upper_words : ℕ
@@ -93,6 +93,34 @@ long_foot = 420
 abbrev pub rows_top : ℕ
 rows_top = 1690
 
+-- Where the line of an offset begins: a little above the first row.
+abbrev pub due_top : ℕ
+due_top = 1650
+
+-- How wide it is: less than a pixel, so that it is quiet.
+abbrev pub due_width : ℕ
+due_width = 6
+
+-- Where the numbers of the first and of the last terminal of a row begin.
+abbrev pub ends_left : ℕ
+ends_left = 8650
+
+-- Where a row that is cut at its beginning is drawn open: left of all boxes.
+abbrev pub open_left : ℕ
+open_left = 1450
+
+-- How wide that is.
+abbrev pub open_width : ℕ
+open_width = 40
+
+-- How far to the right a row that is cut at its end is drawn open.
+abbrev pub open_right : ℕ
+open_right = 8230
+
+-- A box that is narrower has no room for a hatching: six pixels.
+abbrev pub narrow_box : ℕ
+narrow_box = 60
+
 -- The height of a row in a picture without garbled transmissions.
 abbrev pub plain_row : ℕ
 plain_row = 140
@@ -105,7 +133,7 @@ split_row = 320
 abbrev pub box_below : ℕ
 box_below = 10
 
--- How many slots a row has for garbled transmissions, one below the other.
+-- How many slots a row has for garbled transmissions, one below the other, by their terminals.
 abbrev pub slots : ℕ
 slots = 3
 
@@ -147,7 +175,7 @@ breach_below = 10
 
 -- Where the word of a breach or of a fault begins: behind the boxes of all rows.
 abbrev pub breach_left : ℕ
-breach_left = 8540
+breach_left = 8240
 
 -- The width of each of the two parts of the mark of a fault.
 abbrev pub fault_width : ℕ
@@ -201,3 +229,19 @@ breach_box_left = 5040
 -- Where its words begin.
 abbrev pub breach_words_left : ℕ
 breach_words_left = 5100
+
+-- Where the box of a row that is drawn open begins.
+abbrev pub open_box_left : ℕ
+open_box_left = 6100
+
+-- Where its words begin.
+abbrev pub open_words_left : ℕ
+open_words_left = 6260
+
+-- Where the line of an offset is in the legend.
+abbrev pub due_box_left : ℕ
+due_box_left = 8300
+
+-- Where its words begin.
+abbrev pub due_words_left : ℕ
+due_words_left = 8360

@@ -3,6 +3,7 @@ use Rattle.std.specs.Prelude.{ℕ, ◌+◌, ◌*◌, ◌==◌, min, if◌then◌
 use Rattle.bus_table.specs.Tables.{Table}
 use Rattle.bus_shapes.specs.declared.counts.Counts.{Counts}
 use Rattle.bus_shapes.specs.declared.scale.Scale.{Scale}
+use Rattle.bus_cycles.specs.Cuts.{seen_of}
 use Rattle.bus_cycles.specs.Lanes.{lanes_of}
 use Rattle.bus_cycles.specs.Measures.{plain_row, plot_left, plot_width, rows_top, split_row}
 use Rattle.bus_cycles.specs.Rows.{cycle_of}
@@ -24,6 +25,7 @@ page_of table survey counts = record {
   cycle = cycle_of table;
   rows = min survey.count most_rows;
   row_height = row_height_of counts.garbled;
+  seen = seen_of counts;
   lanes = lanes_of table;
 }
 

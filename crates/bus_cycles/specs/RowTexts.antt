@@ -4,17 +4,19 @@ use Rattle.std.specs.Prelude.{nat_le, nat_lt, max, List, [], ◌∷◌, ◌++◌
 use Rattle.std.specs.List.{flat_map, list_any}
 use Rattle.bus_shapes.specs.Classes.{digits_class}
 use Rattle.bus_shapes.specs.declared.class.Class.{Class}
-use Rattle.bus_shapes.specs.declared.class.Class.TheVariants.{Detail, Garbled, Other, Small, Wordstring}
+use Rattle.bus_shapes.specs.declared.class.Class.TheVariants.{Detail, Garbled, GarbledNarrow, Other, Small, Unobserved, Wordstring}
 use Rattle.bus_shapes.specs.declared.sent.Sent.{Sent}
 use Rattle.bus_shapes.specs.Sayings.{sent_words}
 use Rattle.bus_shapes.specs.Scales.{place}
 use Rattle.bus_shapes.specs.declared.area.Area.{Area}
 use Rattle.bus_shapes.specs.Shapes.{titled_text, words_text}
 use Rattle.bus_shapes.specs.Measures as shapes
+use Rattle.bus_cycles.specs.Cuts.{is_cut_before, is_cut_behind, is_whole}
 use Rattle.bus_cycles.specs.Rows.{Extent, Row, extent_of}
 use Rattle.bus_cycles.specs.Pages.{Page, top_of}
 use Rattle.bus_cycles.specs.Surveys.{is_drawn, length_of}
-use Rattle.bus_cycles.specs.Measures.{begins_right, box_below, long_number, middle_line, middle_number, short_number, slot_below, slots}
+use Rattle.bus_cycles.specs.Measures.{begins_right, box_below, ends_left, long_number, middle_line, middle_number, narrow_box, open_left, open_right}
+use Rattle.bus_cycles.specs.Measures.{open_width, short_number, slot_below, slots}
 
 -- ---- where a transmission is
 -- The place of a moment in a row that began at this moment, on a whole pixel.
@@ -29,17 +31,25 @@ left_of page begin sent = pixel page begin sent.moment
 abbrev pub right_of : Page → ℕ → Sent → ℕ
 right_of page begin sent = max (pixel page begin sent.end) (left_of page begin sent + shapes.pixel)
 
--- The slot of a garbled transmission: by its place in the list, so that neighbours have different ones.
-abbrev pub slot_of : Sent → ℕ
-slot_of sent = sent.at % slots
+-- The lane of its terminal.
+abbrev pub lane_in : Page → Sent → ℕ
+lane_in page sent = slice_index_or page.lanes sent.terminal 0
+
+-- The slot of a garbled transmission: by its terminal's lane, so that a terminal keeps its slot and neighbours have different ones.
+abbrev pub slot_of : Page → Sent → ℕ
+slot_of page sent = lane_in page sent % slots
 
 -- Its shade: where it is garbled, by its slot, and else by its terminal's lane.
 abbrev pub shade : Page → Sent → ℕ
-shade page sent = if sent.garbled then 2 + slot_of sent else slice_index_or page.lanes sent.terminal 0 % 2
+shade page sent = if sent.garbled then 2 + slot_of page sent else lane_in page sent % 2
 
--- What it is drawn as: a garbled one is hatched.
-abbrev pub class_of : ℕ → Class
-class_of shade = if shade == 0 then Other else (if shade == 1 then Wordstring else Garbled)
+-- What a garbled one of this width is drawn as.
+abbrev pub garbled_class : ℕ → Class
+garbled_class width = if nat_lt width narrow_box then GarbledNarrow else Garbled
+
+-- What a transmission of this width and shade is drawn as: a garbled one is hatched.
+abbrev pub class_of : ℕ → ℕ → Class
+class_of width shade = if shade == 0 then Other else (if shade == 1 then Wordstring else garbled_class width)
 
 -- The height of a slot.
 abbrev pub slot_height : Page → ℕ
@@ -81,7 +91,7 @@ number_text area sent =
 
 -- A transmission in an area: its box, and its number.
 abbrev pub sent_text : Page → Area → Sent → List ℕ
-sent_text page area sent = titled_text (class_of (shade page sent)) area (sent_words sent) ++ number_text area sent
+sent_text page area sent = titled_text (class_of area.width (shade page sent)) area (sent_words sent) ++ number_text area sent
 
 -- A text of a row, which is left out where the row isn't drawn.
 abbrev pub where_drawn : ℕ → List ℕ → List ℕ
@@ -126,16 +136,67 @@ line_of page row = top_of page row + page.row_height / 2 + middle_line
 abbrev pub begin_words : ℕ → ℕ → List ℕ
 begin_words lift begin = if nat_lt begin lift then codes "-" ++ decimal (lift - begin) else decimal (begin - lift)
 
+-- The length of a row in words, and whether it is cut.
+abbrev pub length_words : Page → Extent → List ℕ
+length_words page row =
+    if is_whole page.cycle page.seen row then decimal (length_of page.cycle.lift row)
+    else codes "cut " ++ decimal (length_of page.cycle.lift row)
+
 -- The words of a row: its number, from 1, and the moment at which it begins at its left, its length at its right.
 abbrev pub words_of : Page → Extent → List ℕ
 words_of page row =
     words_text Small shapes.left_margin (line_of page row.place) (decimal (row.place + 1))
     ++ words_text Detail begins_right (line_of page row.place) (begin_words page.cycle.lift row.begin)
-    ++ words_text Detail shapes.right_margin (line_of page row.place) (decimal (length_of page.cycle.lift row))
+    ++ words_text Detail shapes.right_margin (line_of page row.place) (length_words page row)
 
--- They stand in the walk for what is plain.
+-- Where a row that is cut at its beginning is drawn open: left of its boxes.
+abbrev pub before_area : Page → ℕ → Area
+before_area page row = record {
+  left = open_left;
+  top = top_of page row + box_below;
+  width = open_width;
+  height = page.row_height - 2 * box_below;
+}
+
+-- Where a row that is cut at its end is drawn open begins: where what is seen ends, and right of its boxes.
+abbrev pub behind_left : Page → Extent → ℕ
+behind_left page row = pixel page row.begin (max row.end page.seen.to) + shapes.pixel
+
+-- Where a row that is cut at its end is drawn open: from there to behind all boxes.
+abbrev pub behind_area : Page → Extent → Area
+behind_area page row = record {
+  left = behind_left page row;
+  top = top_of page row.place + box_below;
+  width = open_right - behind_left page row;
+  height = page.row_height - 2 * box_below;
+}
+
+-- A row that is cut at its beginning is drawn open there, with these words under the pointer.
+abbrev pub before_text : Page → Extent → List ℕ
+before_text page row =
+    if is_cut_before page.cycle page.seen row
+    then titled_text Unobserved (before_area page row.place) (codes "cut: the cycle begins at the settled start, or before the window")
+    else []
+
+-- A row that is cut at its end is drawn open there.
+abbrev pub behind_text : Page → Extent → List ℕ
+behind_text page row =
+    if is_cut_behind page.cycle page.seen row
+    then titled_text Unobserved (behind_area page row) (codes "cut: the cycle isn't over where the window or the trace ends")
+    else []
+
+-- The numbers of the first and of the last terminal of a row, right of it: where boxes have no room for numbers, these stand still.
+abbrev pub ends_words : Page → Extent → List ℕ
+ends_words page row =
+    words_text Small ends_left (line_of page row.place) (decimal row.first ++ codes "-" ++ decimal row.last)
+
+-- What stands at the end of a row: its words, and where it is cut.
+abbrev pub closing_text : Page → Extent → List ℕ
+closing_text page row = words_of page row ++ ends_words page row ++ before_text page row ++ behind_text page row
+
+-- It stands in the walk for what is plain.
 abbrev pub ending_text : Page → Bool → Extent → List ℕ
-ending_text page garbled row = if garbled then [] else where_drawn row.place (words_of page row)
+ending_text page garbled row = if garbled then [] else where_drawn row.place (closing_text page row)
 
 -- What a walk draws of a row: its transmissions, then its words.
 abbrev pub row_text : Page → Bool → Row → List ℕ

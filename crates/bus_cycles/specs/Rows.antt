@@ -1,5 +1,5 @@
 -- The rows of a picture: where each begins and ends, and its transmissions.
-use Rattle.std.specs.Prelude.{ℕ, ◌+◌, ◌-◌, ◌*◌, ◌/◌, Bool, not, ◌==◌, nat_le, max, min, fold, List, [], ◌∷◌, ◌++◌, if◌then◌else◌}
+use Rattle.std.specs.Prelude.{ℕ, ◌+◌, ◌-◌, ◌*◌, ◌/◌, Bool, not, ◌&&◌, ◌==◌, nat_le, nat_lt, max, min, fold, List, [], ◌∷◌, ◌++◌, if◌then◌else◌}
 use Rattle.bus_strings.specs.Messages.{Entry}
 use Rattle.bus_table.specs.declared.mode.Mode.{Mode}
 use Rattle.bus_table.specs.declared.mode.Mode.TheVariants.{Aperiodic, Periodic}
@@ -58,19 +58,44 @@ abbrev pub is_new : Cycle → ℕ → Sent → Bool
 is_new cycle begin sent = is_new_in cycle.mode cycle begin sent
 
 -- ---- rows
--- A row: which one it is, from 0, the moment at which it begins, counted from before the settled start, and its transmissions in order.
+-- Whether a transmission is seen to begin a cycle: it comes a synchronization gap or more behind the end of an earlier one, and of all. So
+-- the first of a list doesn't, of which the quiet before it isn't seen.
+abbrev pub is_fresh : Cycle → Sent → Bool
+is_fresh cycle sent = nat_lt 0 sent.before && nat_le cycle.sg (sent.moment - sent.before)
+
+-- A row: which one it is, from 0, the moment at which it begins, counted from before the settled start, whether its first transmission is
+-- seen to begin a cycle, the terminals of the first and of the last of them, and its transmissions in order.
 pub record Row : Type 0 where
   pub place : ℕ
   pub begin : ℕ
+  pub fresh : Bool
+  pub first : ℕ
+  pub last : ℕ
   pub sents : List Sent
 
 -- The row that begins with a transmission.
 abbrev pub row_at : Cycle → ℕ → Sent → Row
-row_at cycle place sent = record { place = place; begin = begin_of cycle sent; sents = sent ∷ [] }
+row_at cycle place sent =
+    record {
+      place = place;
+      begin = begin_of cycle sent;
+      fresh = is_fresh cycle sent;
+      first = sent.terminal;
+      last = sent.terminal;
+      sents = sent ∷ [];
+    }
 
 -- A row with one transmission more behind the others.
 abbrev pub with_sent : Row → Sent → Row
-with_sent row sent = record { place = row.place; begin = row.begin; sents = row.sents ++ sent ∷ [] }
+with_sent row sent =
+    record {
+      place = row.place;
+      begin = row.begin;
+      fresh = row.fresh;
+      first = row.first;
+      last = sent.terminal;
+      sents = row.sents ++ sent ∷ [];
+    }
 
 -- A row and those behind it, where these transmissions follow on it: each goes on with its row or begins the next one.
 abbrev pub rows_from : Cycle → Row → List Sent → List Row
@@ -95,7 +120,14 @@ end_of_all sents = fold (λ end sent. max end sent.end) 0 sents
 
 -- Where a row is.
 abbrev pub extent_of : Row → Extent
-extent_of row = record { place = row.place; begin = row.begin; end = end_of_all row.sents }
+extent_of row = record {
+  place = row.place;
+  begin = row.begin;
+  fresh = row.fresh;
+  first = row.first;
+  last = row.last;
+  end = end_of_all row.sents;
+}
 
 -- Whether a row takes a moment: in periodic mode one of the interval that begins with it, and else one that isn't before its beginning.
 abbrev pub takes_in : Mode → Cycle → Extent → ℕ → Bool

@@ -11,6 +11,7 @@ use Rattle.bus_shapes.specs.declared.told.Told.TheVariants.{Audit, Findings}
 use Rattle.bus_trace.specs.Windows.{Window, holds}
 use Rattle.bus_shapes.specs.declared.sent.Sent.{Sent}
 use Rattle.bus_cycles.specs.Rows.{Cycle, Extent, extent_of, rows_of, takes}
+use Rattle.bus_cycles.specs.Cuts.{Seen, is_whole}
 use Rattle.bus_cycles.specs.Sents.{shown}
 pub use Rattle.bus_cycles.specs.declared.survey.Survey.{Survey}
 
@@ -39,7 +40,7 @@ takes_breach cycle (Some moment) row = takes cycle row moment
 
 -- What is told where no row is looked at: a picture is at least as long as a transmit interval.
 abbrev pub nothing : Cycle → Survey
-nothing cycle = record { count = 0; longest = cycle.ti; next = None; marked = None; least = 0; most = 0 }
+nothing cycle = record { count = 0; whole = 0; longest = cycle.ti; next = None; marked = None; least = 0; most = 0 }
 
 -- The length of a row, from the moment at which it begins until the last of its transmissions has ended, given from how long before the
 -- settled start the former is counted.
@@ -58,19 +59,32 @@ next_with lift next row = if row.place == most_rows then Some (row.begin - lift)
 abbrev pub marked_with : Cycle → Option ℕ → Option Extent → Extent → Option Extent
 marked_with cycle breach marked row = if takes_breach cycle breach row then Some row else marked
 
--- With one row more, where these are before it: the least length.
+-- With one row more: how many are whole.
+abbrev pub whole_with : Cycle → Seen → ℕ → Extent → ℕ
+whole_with cycle seen whole row = if is_whole cycle seen row then whole + 1 else whole
+
+-- With one whole row more, where so many are before it: the least length.
 abbrev pub least_with : ℕ → ℕ → ℕ → Extent → ℕ
-least_with lift count least row = if count == 0 then length_of lift row else min least (length_of lift row)
+least_with lift whole least row = if whole == 0 then length_of lift row else min least (length_of lift row)
+
+-- With one row more: the least length of those that are whole.
+abbrev pub least_where : Cycle → Seen → ℕ → ℕ → Extent → ℕ
+least_where cycle seen whole least row = if is_whole cycle seen row then least_with cycle.lift whole least row else least
+
+-- With one row more: the greatest length of those that are whole.
+abbrev pub most_where : Cycle → Seen → ℕ → Extent → ℕ
+most_where cycle seen most row = if is_whole cycle seen row then max most (length_of cycle.lift row) else most
 
 -- With one row more: all that is told.
-abbrev pub with_row : Cycle → Option ℕ → Survey → Extent → Survey
-with_row cycle breach survey row = record {
+abbrev pub with_row : Cycle → Seen → Option ℕ → Survey → Extent → Survey
+with_row cycle seen breach survey row = record {
   count = survey.count + 1;
+  whole = whole_with cycle seen survey.whole row;
   longest = longest_with cycle.lift survey.longest row;
   next = next_with cycle.lift survey.next row;
   marked = marked_with cycle breach survey.marked row;
-  least = least_with cycle.lift survey.count survey.least row;
-  most = max survey.most (length_of cycle.lift row);
+  least = least_where cycle seen survey.whole survey.least row;
+  most = most_where cycle seen survey.most row;
 }
 
 -- How far the breach is behind the beginning of its row, where that is drawn.
@@ -87,6 +101,7 @@ reach_of lift (Some moment) (Some row) = reach_in lift moment row
 abbrev pub with_breach : ℕ → Option ℕ → Survey → Survey
 with_breach lift breach survey = record {
   count = survey.count;
+  whole = survey.whole;
   longest = max survey.longest (reach_of lift breach survey.marked);
   next = survey.next;
   marked = survey.marked;
@@ -95,12 +110,12 @@ with_breach lift breach survey = record {
 }
 
 -- What is told of the rows of transmissions.
-abbrev pub told_of : Cycle → Option ℕ → List Sent → Survey
-told_of cycle breach sents = fold (with_row cycle breach) (nothing cycle) (map extent_of (rows_of cycle sents))
+abbrev pub told_of : Cycle → Seen → Option ℕ → List Sent → Survey
+told_of cycle seen breach sents = fold (with_row cycle seen breach) (nothing cycle) (map extent_of (rows_of cycle sents))
 
 -- What is told of them, with the breach.
-abbrev pub survey_of : Cycle → Option ℕ → List Sent → Survey
-survey_of cycle breach sents = with_breach cycle.lift breach (told_of cycle breach sents)
+abbrev pub survey_of : Cycle → Seen → Option ℕ → List Sent → Survey
+survey_of cycle seen breach sents = with_breach cycle.lift breach (told_of cycle seen breach sents)
 
 -- What is shown: the transmissions that begin in the window.
 abbrev pub counts : Window → Recording → Counts

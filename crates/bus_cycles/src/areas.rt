@@ -4,7 +4,7 @@ ghost use Rattle.bus_cycles.specs.inside.Bounds.{IsPage, IsSent};
 ghost use Rattle.bus_cycles.specs.RowTexts as definition;
 
 use crate::cycle::Extent;
-use crate::measures::{BOX_BELOW, SLOT_BELOW};
+use crate::measures::{BOX_BELOW, NARROW_BOX, SLOT_BELOW};
 use crate::page::Page;
 use bus_shapes::measures::PIXEL;
 use bus_shapes::{Area, Class, Sent};
@@ -39,21 +39,33 @@ pub(crate) fn shade_of(page: &Page, sent: &Sent) -> usize
     ensures value { result ≡ definition.shade page.now sent.now }
     ensures low { result < 5 }
 {
+    let lane = page.lanes[sent.terminal as usize];
     if sent.garbled {
-        2 + sent.at % SLOTS
+        2 + lane % SLOTS
     } else {
-        page.lanes[sent.terminal as usize] % 2
+        lane % 2
     }
 }
 
-/// What it is drawn as.
-pub(crate) fn class_of(shade: usize) -> Class
-    ensures { result ≡ definition.class_of shade }
+/// What a garbled one of this width is drawn as.
+fn garbled_class(width: u64) -> Class
+    ensures { result ≡ definition.garbled_class width }
+{
+    if width < NARROW_BOX {
+        Class::GarbledNarrow
+    } else {
+        Class::Garbled
+    }
+}
+
+/// What a transmission of this width and shade is drawn as.
+pub(crate) fn class_of(width: u64, shade: usize) -> Class
+    ensures { result ≡ definition.class_of width shade }
 {
     match shade {
         0 => Class::Other,
         1 => Class::Wordstring,
-        _ => Class::Garbled,
+        _ => garbled_class(width),
     }
 }
 

@@ -10,8 +10,12 @@ ghost use Rattle.bus_cycles.specs.RowTexts as definition;
 ghost use Rattle.bus_cycles.specs.Sents.{shown};
 
 use crate::areas::{area_of, class_of, right_of, shade_of};
+use crate::cut::is_whole;
 use crate::cycle::Extent;
-use crate::measures::{BEGINS_RIGHT, LONG_NUMBER, MIDDLE_LINE, MIDDLE_NUMBER, SHORT_NUMBER};
+use crate::measures::{
+    BEGINS_RIGHT, ENDS_LEFT, LONG_NUMBER, MIDDLE_LINE, MIDDLE_NUMBER, SHORT_NUMBER,
+};
+use crate::open::{put_cut_before, put_cut_behind};
 use crate::page::Page;
 use crate::shown::Shown;
 use crate::survey::{MOST_ROWS, length_of};
@@ -68,7 +72,7 @@ fn put_in<K: Sink>(text: &mut TextBuffer, sink: &mut K, page: &Page, area: Area,
     requires height { area.height ≤ 300 }
     ensures { Adds K.held K.faults sink.old sink.new text.old text.new (definition.sent_text page.now area sent.now) }
 {
-    begin_titled(text, sink, class_of(shade_of(page, sent)), area);
+    begin_titled(text, sink, class_of(area.width, shade_of(page, sent)), area);
     put_sent(text, sink, sent);
     end_titled(text, sink);
     put_number(text, sink, area, sent);
@@ -159,10 +163,27 @@ fn put_begin<K: Sink>(text: &mut TextBuffer, sink: &mut K, lift: u32, begin: u64
     }
 }
 
+/// The length of a row, and whether it is cut.
+fn put_length<K: Sink>(text: &mut TextBuffer, sink: &mut K, page: &Page, row: Extent)
+    requires page { IsPage page.now }
+    requires begin { row.begin ≤ 2 ^ 42 }
+    requires low { row.end ≤ 2 ^ 41 }
+    ensures { Adds K.held K.faults sink.old sink.new text.old text.new (definition.length_words page.now row) }
+{
+    let long = length_of(page.cycle.lift, row);
+    if is_whole(&page.cycle, page.seen, row) {
+        text.put_number(sink, long);
+    } else {
+        text.put(sink, b"cut ");
+        text.put_number(sink, long);
+    }
+}
+
 /// The words of a row.
 fn put_row_words<K: Sink>(text: &mut TextBuffer, sink: &mut K, page: &Page, row: Extent)
     requires page { IsPage page.now }
     requires place { row.place ≤ 500 }
+    requires begin { row.begin ≤ 2 ^ 42 }
     requires low { row.end ≤ 2 ^ 41 }
     ensures { Adds K.held K.faults sink.old sink.new text.old text.new (definition.words_of page.now row) }
 {
@@ -174,18 +195,46 @@ fn put_row_words<K: Sink>(text: &mut TextBuffer, sink: &mut K, page: &Page, row:
     put_begin(text, sink, page.cycle.lift, row.begin);
     end_words(text, sink);
     begin_words(text, sink, Class::Detail, RIGHT_MARGIN, line);
-    text.put_number(sink, length_of(page.cycle.lift, row));
+    put_length(text, sink, page, row);
     end_words(text, sink);
 }
 
-/// The words of a row, where it is drawn, in the walk for what is plain.
+/// The numbers of the first and of the last terminal of a row.
+fn put_ends<K: Sink>(text: &mut TextBuffer, sink: &mut K, page: &Page, row: Extent)
+    requires page { IsPage page.now }
+    requires place { row.place ≤ 500 }
+    ensures { Adds K.held K.faults sink.old sink.new text.old text.new (definition.ends_words page.now row) }
+{
+    begin_words(text, sink, Class::Small, ENDS_LEFT, page.line_of(row.place));
+    text.put_number(sink, row.first);
+    text.put_byte(sink, b'-');
+    text.put_number(sink, row.last);
+    end_words(text, sink);
+}
+
+/// What stands at the end of a row: its words, and where it is cut.
+fn put_closing<K: Sink>(text: &mut TextBuffer, sink: &mut K, page: &Page, row: Extent)
+    requires page { IsPage page.now }
+    requires place { row.place ≤ 500 }
+    requires begin { row.begin ≤ 2 ^ 42 }
+    requires low { row.end ≤ 2 ^ 41 }
+    ensures { Adds K.held K.faults sink.old sink.new text.old text.new (definition.closing_text page.now row) }
+{
+    put_row_words(text, sink, page, row);
+    put_ends(text, sink, page, row);
+    put_cut_before(text, sink, page, row);
+    put_cut_behind(text, sink, page, row);
+}
+
+/// What stands at the end of a row, where it is drawn, in the walk for what is plain.
 fn put_ending<K: Sink>(text: &mut TextBuffer, sink: &mut K, page: &Page, garbled: bool, row: Extent)
     requires page { IsPage page.now }
+    requires begin { row.begin ≤ 2 ^ 42 }
     requires low { row.end ≤ 2 ^ 41 }
     ensures { Adds K.held K.faults sink.old sink.new text.old text.new (definition.ending_text page.now garbled row) }
 {
     if !garbled && row.place < MOST_ROWS {
-        put_row_words(text, sink, page, row);
+        put_closing(text, sink, page, row);
     }
 }
 
@@ -202,12 +251,14 @@ fn put_new<K: Sink>(
     requires page { IsPage page.now }
     requires sent { IsSent sent.now }
     requires few { row.old.place < 2 ^ 64 - 1 }
+    requires begin { row.old.begin ≤ 2 ^ 42 }
     requires low { row.old.end ≤ 2 ^ 41 }
     ensures adds { (was : Row) → Keeps page.now was row.old edges.old
         → Adds K.held K.faults sink.old sink.new text.old text.new (new_text page.now garbled was sent.now) }
     ensures keeps { (was : Row) → Keeps page.now was row.old edges.old
         → Keeps page.now (row_at page.now.cycle (was.place + 1) sent.now) row.new edges.new }
     ensures place { row.new.place ≡ row.old.place + 1 }
+    ensures begin { row.new.begin ≤ 2 ^ 42 }
     ensures low { row.new.end ≤ 2 ^ 41 }
 {
     put_ending(text, sink, page, garbled, *row);
@@ -228,12 +279,14 @@ fn put_more<K: Sink>(
 )
     requires page { IsPage page.now }
     requires sent { IsSent sent.now }
+    requires begin { row.old.begin ≤ 2 ^ 42 }
     requires low { row.old.end ≤ 2 ^ 41 }
     ensures adds { (was : Row) → Keeps page.now was row.old edges.old
         → Adds K.held K.faults sink.old sink.new text.old text.new (more_text page.now garbled was sent.now) }
     ensures keeps { (was : Row) → Keeps page.now was row.old edges.old
         → Keeps page.now (with_sent was sent.now) row.new edges.new }
     ensures place { row.new.place ≡ row.old.place }
+    ensures begin { row.new.begin ≤ 2 ^ 42 }
     ensures low { row.new.end ≤ 2 ^ 41 }
 {
     *row = row.with(sent);
@@ -253,12 +306,14 @@ fn put_next<K: Sink>(
     requires page { IsPage page.now }
     requires sent { IsSent sent.now }
     requires few { row.old.place < 2 ^ 64 - 1 }
+    requires begin { row.old.begin ≤ 2 ^ 42 }
     requires low { row.old.end ≤ 2 ^ 41 }
     ensures adds { (was : Row) → Keeps page.now was row.old edges.old
         → Adds K.held K.faults sink.old sink.new text.old text.new (next_text page.now garbled was sent.now) }
     ensures keeps { (was : Row) → Keeps page.now was row.old edges.old
         → Keeps page.now (next_row page.now was sent.now) row.new edges.new }
     ensures place { row.new.place ≤ row.old.place + 1 }
+    ensures begin { row.new.begin ≤ 2 ^ 42 }
     ensures low { row.new.end ≤ 2 ^ 41 }
 {
     if page.cycle.is_new(row.begin, sent) {

@@ -1,5 +1,5 @@
 //! What a picture shows of a trace.
-ghost use Rattle.std.specs.Prelude.{◌≡◌};
+ghost use Rattle.std.specs.Prelude.{◌≡◌, ◌<◌, ◌≤◌, ◌^◌};
 ghost use Rattle.bus_cycles.specs.Surveys as definition;
 
 use crate::shown::Shown;
@@ -8,7 +8,9 @@ use bus_trace::{Trace, Window};
 
 /// How many transmissions begin in a window, and how many of them are garbled.
 pub(crate) fn counts(window: &Window, trace: &Trace) -> Counts
-    ensures { result ≡ definition.counts window.now trace.now }
+    ensures value { result ≡ definition.counts window.now trace.now }
+    ensures window { result.from < result.to }
+    ensures low { result.to ≤ 2 ^ 40 }
 {
     let mut count = 0;
     let mut garbled = 0;

@@ -28,6 +28,12 @@ pub(crate) struct Extent {
     pub place: u64,
     /// The moment at which it begins, counted from before the settled start.
     pub begin: u64,
+    /// Whether its first transmission is seen to begin a cycle.
+    pub fresh: bool,
+    /// The terminal of its first transmission.
+    pub first: u8,
+    /// The terminal of its last one.
+    pub last: u8,
     /// The moment at which all its transmissions have ended.
     pub end: u64,
 }
@@ -115,6 +121,13 @@ impl Cycle {
         }
     }
 
+    /// Whether a transmission is seen to begin a cycle.
+    fn is_fresh(&self, sent: &Sent) -> bool
+        ensures { result ≡ definition.is_fresh self.now sent.now }
+    {
+        sent.before > 0 && sent.moment.saturating_sub(sent.before) >= u64::from(self.sg)
+    }
+
     /// The row that begins with a transmission.
     pub fn row_at(&self, place: u64, sent: &Sent) -> Extent
         requires some { 0 < self.now.ti }
@@ -126,6 +139,9 @@ impl Cycle {
         Extent {
             place,
             begin: self.begin_of(sent),
+            fresh: self.is_fresh(sent),
+            first: sent.terminal,
+            last: sent.terminal,
             end: sent.end,
         }
     }
@@ -156,6 +172,9 @@ impl Extent {
         Extent {
             place: self.place,
             begin: self.begin,
+            fresh: self.fresh,
+            first: self.first,
+            last: sent.terminal,
             end: sent.end.max(self.end),
         }
     }

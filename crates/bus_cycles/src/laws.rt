@@ -3,8 +3,9 @@ ghost use Rattle.bus_cycles.specs.Laws.{BreachHidesNone, BreachIsAtItsMoment, Br
 ghost use Rattle.bus_cycles.specs.Laws.{FaultHidesNone, FaultsAreMarked, NoFaultIsMarked};
 ghost use Rattle.bus_cycles.specs.Laws.{HatchedAreDrawnLast, HatchedAreGarbled, KeptAreDrawn, LeftOutAreCovered, LengthsAreOfRows};
 ghost use Rattle.bus_cycles.specs.Laws.{LoadsAreShares, NeighboursDiffer, RowsAreAPartition, RowsAreCounted, RowsAreCycles};
-ghost use Rattle.bus_cycles.specs.Laws.{RowsAreIntervals, RowsAreNumbered, RowsAscend, RowsHaveLengths, TheLastRowIsMarked};
-ghost use Rattle.bus_cycles.specs.Laws.{ThreeLieApart};
+ghost use Rattle.bus_cycles.specs.Laws.{BoxesBeginWhereDue, CutAreOpen, DuesAreMarked, EndsAreNamed};
+ghost use Rattle.bus_cycles.specs.Laws.{OpenHidesNone, RowsAreIntervals, RowsAreNumbered, RowsAscend, RowsHaveLengths};
+ghost use Rattle.bus_cycles.specs.Laws.{SlotsAreKept, TheLastRowIsMarked, ThreeLieApart, WholeAreCounted, WholeAreSeen};
 
 use bus_shapes::laws::places_keep_order;
 
@@ -97,16 +98,42 @@ pub fn fault_hides_none()
     ensures { FaultHidesNone }
 {}
 
-/// No row is shorter than the least length that the words above the rows tell, or longer than the greatest.
+/// No whole row is shorter than the least length that the words above the rows tell, or longer than the greatest.
 pub fn lengths_are_of_rows()
     ensures { LengthsAreOfRows }
 {}
 
-/// Where there are rows, one has the least length that the words above the rows tell, and one has the greatest. And these words tell how
-/// many there are.
+/// Where some row is told to be whole, a whole one has the least length that the words above the rows tell, and one has the greatest. And these
+/// words tell how many rows there are, and how many of them are whole.
 pub fn rows_have_lengths()
     ensures lengths { RowsHaveLengths }
     ensures count { RowsAreCounted }
+    ensures whole { WholeAreCounted }
+{}
+
+/// In aperiodic mode a whole row has all of its cycle: a synchronization gap or more lies before its first transmission and behind an earlier
+/// one, and one is seen behind its end.
+pub fn whole_are_seen()
+    ensures { WholeAreSeen }
+{}
+
+/// A row is drawn open exactly where it is cut, which hides none of its boxes.
+pub fn cut_are_open()
+    ensures open { CutAreOpen }
+    ensures boxes { OpenHidesNone }
+{
+    places_keep_order();
+}
+
+/// In periodic mode each sender has a line where it is due in a row, at which the box of a transmission begins that begins then.
+pub fn dues_are_marked()
+    ensures marked { DuesAreMarked }
+    ensures boxes { BoxesBeginWhereDue }
+{}
+
+/// A row says which terminals send the first and the last of its transmissions.
+pub fn ends_are_named()
+    ensures { EndsAreNamed }
 {}
 
 /// No row is busy for more bit times than it has.
@@ -119,7 +146,12 @@ pub fn neighbours_differ()
     ensures { NeighboursDiffer }
 {}
 
-/// Of any three transmissions of a list, one behind the other, that are garbled, no box meets another one of the same row.
+/// A terminal keeps its slot: what of it is garbled lies at the same height in all rows.
+pub fn slots_are_kept()
+    ensures { SlotsAreKept }
+{}
+
+/// Of any three senders, one behind the other in turn order, no two boxes of what is garbled meet in a row.
 pub fn three_lie_apart()
     ensures { ThreeLieApart }
 {}

@@ -4,8 +4,8 @@
 //! - [`laws`] has what follows of the definitions.
 //!
 //! The definitions are in `specs/`: `Sents` (the transmissions that begin in a window), `Rows` (where the rows begin, and which
-//! transmissions each has), `Surveys` (what is told of all rows before they are drawn), `Lanes` (by which shades go), `Pages` (what all
-//! rows go by), `RowTexts` (the text of a row), `Loads` (how busy a row is), `Faults` (the marks of faults) and `CyclesTexts` (the text of
+//! transmissions each has), `Cuts` (which are whole), `Surveys` (what is told of all rows before they are drawn), `Lanes` (by which shades go), `Pages` (what all
+//! rows go by), `RowTexts` (the text of a row), `Loads` (how busy a row is), `Faults` (the marks of faults), `Dues` (those of offsets) and `CyclesTexts` (the text of
 //! the picture). No call takes memory.
 #![tactic(auto)]
 
@@ -13,12 +13,15 @@ mod areas;
 mod boxes;
 mod breach;
 mod counting;
+mod cut;
 mod cycle;
+mod due;
 mod faults;
 pub mod laws;
 mod legend;
 mod load;
 mod measures;
+mod open;
 mod page;
 mod plot;
 mod shown;

@@ -18,8 +18,7 @@ use crate::shown::Shown;
 use crate::survey::{MOST_ROWS, length_of};
 use bus_load::{Stretch, bits_within};
 use bus_outer::{Sink, TextBuffer};
-use bus_shapes::{Class, Sent, begin_words, end_words};
-use bus_strings::{put_share, tenths};
+use bus_shapes::{Class, Sent, begin_words, end_words, put_load_share};
 use bus_table::Mode;
 use bus_trace::{Trace, Window};
 
@@ -84,11 +83,7 @@ fn put_share_words<K: Sink>(
         LOAD_RIGHT,
         page.line_of(row.place),
     );
-    put_share(
-        text,
-        sink,
-        tenths(u128::from(busy), whole_of(&page.cycle, row)),
-    );
+    put_load_share(text, sink, u128::from(busy), whole_of(&page.cycle, row));
     end_words(text, sink);
 }
 

@@ -4,13 +4,13 @@
 pub(crate) const PLOT_LEFT: u64 = 1500;
 
 /// Their width.
-pub(crate) const PLOT_WIDTH: u64 = 7000;
+pub(crate) const PLOT_WIDTH: u64 = 6700;
 
 /// Where the moments end at which rows begin.
 pub(crate) const BEGINS_RIGHT: u64 = 1440;
 
 /// Where the loads of rows end.
-pub(crate) const LOAD_RIGHT: u64 = 9400;
+pub(crate) const LOAD_RIGHT: u64 = 9540;
 
 /// The line of the numbers of microseconds.
 pub(crate) const UPPER_WORDS: u64 = 1210;
@@ -69,6 +69,27 @@ pub(crate) const LONG_FOOT: u64 = 420;
 /// The upper edge of the first row.
 pub(crate) const ROWS_TOP: u64 = 1690;
 
+/// Where the line of an offset begins: a little above the first row.
+pub(crate) const DUE_TOP: u64 = 1650;
+
+/// How wide it is: less than a pixel, so that it is quiet.
+pub(crate) const DUE_WIDTH: u64 = 6;
+
+/// Where the numbers of the first and of the last terminal of a row begin.
+pub(crate) const ENDS_LEFT: u64 = 8650;
+
+/// Where a row that is cut at its beginning is drawn open: left of all boxes.
+pub(crate) const OPEN_LEFT: u64 = 1450;
+
+/// How wide that is.
+pub(crate) const OPEN_WIDTH: u64 = 40;
+
+/// How far to the right a row that is cut at its end is drawn open.
+pub(crate) const OPEN_RIGHT: u64 = 8230;
+
+/// A box that is narrower has no room for a hatching: six pixels.
+pub(crate) const NARROW_BOX: u64 = 60;
+
 /// The height of a row in a picture without garbled transmissions.
 pub(crate) const PLAIN_ROW: u64 = 140;
 
@@ -106,7 +127,7 @@ pub(crate) const BREACH_OVER: u64 = 30;
 pub(crate) const BREACH_BELOW: u64 = 10;
 
 /// Where the word of a breach or of a fault begins: behind the boxes of all rows.
-pub(crate) const BREACH_LEFT: u64 = 8540;
+pub(crate) const BREACH_LEFT: u64 = 8240;
 
 /// The width of each of the two parts of the mark of a fault.
 pub(crate) const FAULT_WIDTH: u64 = 40;
@@ -147,3 +168,15 @@ pub(crate) const BREACH_BOX_LEFT: u64 = 5040;
 
 /// Where its words begin.
 pub(crate) const BREACH_WORDS_LEFT: u64 = 5100;
+
+/// Where the box of a row that is drawn open begins.
+pub(crate) const OPEN_BOX_LEFT: u64 = 6100;
+
+/// Where its words begin.
+pub(crate) const OPEN_WORDS_LEFT: u64 = 6260;
+
+/// Where the line of an offset is in the legend.
+pub(crate) const DUE_BOX_LEFT: u64 = 8300;
+
+/// Where its words begin.
+pub(crate) const DUE_WORDS_LEFT: u64 = 8360;

@@ -7,6 +7,7 @@ ghost use Rattle.bus_cycles.specs.Pages as definition;
 ghost use Rattle.bus_cycles.specs.inside.Bounds.{IsPage};
 ghost use Rattle.bus_cycles.specs.RowTexts as texts;
 
+use crate::cut::{Seen, seen_of};
 use crate::cycle::Cycle;
 use crate::measures::{MIDDLE_LINE, PLAIN_ROW, PLOT_LEFT, PLOT_WIDTH, ROWS_TOP, SPLIT_ROW};
 use crate::survey::{MOST_ROWS, Survey};
@@ -28,6 +29,8 @@ pub(crate) struct Page {
     pub rows: u64,
     /// The height of a row.
     pub row_height: u64,
+    /// The moments that are seen.
+    pub seen: Seen,
     /// The lane of each terminal, by its number.
     pub lanes: [usize; NUMBERS],
 }
@@ -82,7 +85,9 @@ fn row_height_of(garbled: u64) -> u64
 impl Page {
     /// What the rows of a picture go by.
     pub fn new(table: &Table, survey: &Survey, counts: &Counts) -> Page
-        requires { IsScale (definition.scale_of survey.now) }
+        requires scale { IsScale (definition.scale_of survey.now) }
+        requires window { counts.now.from < counts.now.to }
+        requires low { counts.now.to ≤ 2 ^ 40 }
         ensures value { result ≡ definition.page_of table.now survey.now counts.now }
         ensures page { IsPage result }
     {
@@ -91,6 +96,7 @@ impl Page {
             cycle: Cycle::new(table),
             rows: survey.count.min(MOST_ROWS),
             row_height: row_height_of(counts.garbled),
+            seen: seen_of(counts),
             lanes: lanes_of(table),
         }
     }

@@ -7,9 +7,9 @@ ghost use Rattle.bus_cycles.specs.inside.Bounds.{IsPage};
 
 use crate::legend::put_legend;
 use crate::measures::{
-    BEFORE_MARK, BEHIND_MARK, FOOT_HEIGHT, LEAST_WORDS_LINE, LINE_WIDTH, LOAD_RIGHT, LONG_FOOT,
-    LONG_PICTURE, LOWER_FOOT, LOWER_TOP, LOWER_WORDS, MARK_WORDS_LINE, MARKS_TOP, ROWS_LINE,
-    TICK_HEIGHT, TICKS_FOOT, UPPER_FOOT, UPPER_TICKS, UPPER_WORDS,
+    BEFORE_MARK, BEHIND_MARK, ENDS_LEFT, FOOT_HEIGHT, LEAST_WORDS_LINE, LINE_WIDTH, LOAD_RIGHT,
+    LONG_FOOT, LONG_PICTURE, LOWER_FOOT, LOWER_TOP, LOWER_WORDS, MARK_WORDS_LINE, MARKS_TOP,
+    ROWS_LINE, TICK_HEIGHT, TICKS_FOOT, UPPER_FOOT, UPPER_TICKS, UPPER_WORDS,
 };
 use crate::page::Page;
 use crate::survey::{MOST_ROWS, Survey};
@@ -17,7 +17,8 @@ use bus_outer::{Sink, TextBuffer};
 use bus_regime::TableVerdict;
 use bus_shapes::measures::{LEFT_MARGIN, RIGHT_MARGIN};
 use bus_shapes::{
-    Area, Axis, Class, Scale, Told, Unit, begin_words, end_words, put_axis, put_box, put_words,
+    Area, Axis, Class, Counts, Scale, Told, Unit, begin_words, end_words, put_axis, put_box,
+    put_parted, put_words,
 };
 use bus_table::{Mode, Table};
 
@@ -48,31 +49,45 @@ fn put_next<K: Sink>(text: &mut TextBuffer, sink: &mut K, next: Option<u64>)
 {
     if let Some(begin) = next {
         text.put(sink, b", the next at ");
-        text.put_number(sink, begin);
+        put_parted(text, sink, begin);
     }
 }
 
-/// How long the rows are.
+/// How long the rows are that are whole.
+fn put_whole<K: Sink>(text: &mut TextBuffer, sink: &mut K, survey: &Survey)
+    ensures { Adds K.held K.faults sink.old sink.new text.old text.new (definition.whole_words survey.now) }
+{
+    text.put(sink, b"; ");
+    put_parted(text, sink, survey.whole);
+    text.put(sink, b" whole, ");
+    put_parted(text, sink, survey.least);
+    text.put(sink, b" to ");
+    put_parted(text, sink, survey.most);
+    text.put(sink, b" bit times long");
+}
+
+/// The same where there are rows.
 fn put_lengths<K: Sink>(text: &mut TextBuffer, sink: &mut K, survey: &Survey)
     ensures { Adds K.held K.faults sink.old sink.new text.old text.new (definition.lengths_words survey.now) }
 {
-    if survey.count != 0 {
-        text.put(sink, b", ");
-        text.put_number(sink, survey.least);
-        text.put(sink, b" to ");
-        text.put_number(sink, survey.most);
-        text.put(sink, b" bit times long");
+    if survey.count == 0 {
+        return;
+    }
+    if survey.whole == 0 {
+        text.put(sink, b"; none whole");
+    } else {
+        put_whole(text, sink, survey);
     }
 }
 
-/// How many rows are drawn of how many, how long they are, and where the next begins.
+/// How many rows are drawn of how many, how long the whole ones are, and where the next begins.
 fn put_row_words<K: Sink>(text: &mut TextBuffer, sink: &mut K, survey: &Survey)
     ensures { Adds K.held K.faults sink.old sink.new text.old text.new (definition.row_words survey.now) }
 {
     text.put(sink, b"a row for each cycle, from where it begins: ");
-    text.put_number(sink, survey.count.min(MOST_ROWS));
+    put_parted(text, sink, survey.count.min(MOST_ROWS));
     text.put(sink, b" of ");
-    text.put_number(sink, survey.count);
+    put_parted(text, sink, survey.count);
     put_lengths(text, sink, survey);
     put_next(text, sink, survey.next);
 }
@@ -140,15 +155,17 @@ pub(crate) fn put_above<K: Sink>(
     sink: &mut K,
     page: &Page,
     survey: &Survey,
+    counts: &Counts,
     told: &Told,
 )
     requires { IsPage page.now }
-    ensures { Adds K.held K.faults sink.old sink.new text.old text.new (definition.above_text page.now survey.now told.now) }
+    ensures { Adds K.held K.faults sink.old sink.new text.old text.new
+        (definition.above_text page.now survey.now counts.now told.now) }
 {
     begin_words(text, sink, Class::Small, LEFT_MARGIN, ROWS_LINE);
     put_row_words(text, sink, survey);
     end_words(text, sink);
-    put_legend(text, sink, told);
+    put_legend(text, sink, page, survey, counts, told);
     put_axes(text, sink, page);
     put_words(
         text,
@@ -157,6 +174,14 @@ pub(crate) fn put_above<K: Sink>(
         LEFT_MARGIN,
         MARK_WORDS_LINE,
         b"cycle, its begin",
+    );
+    put_words(
+        text,
+        sink,
+        Class::Small,
+        ENDS_LEFT,
+        LOWER_WORDS,
+        b"first-last",
     );
     put_words(
         text,

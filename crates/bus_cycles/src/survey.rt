@@ -2,9 +2,10 @@
 ghost use Rattle.std.specs.Prelude.{◌≡◌, ◌<◌, ◌≤◌, ◌-◌, ◌^◌, ◌∷◌, IfSome, length};
 ghost use Rattle.std.specs.List.{AllByRecursion};
 ghost use Rattle.bus_cycles.specs.Sents.{shown};
-ghost use Rattle.bus_cycles.specs.inside.Bounds.{IsSent};
+ghost use Rattle.bus_cycles.specs.inside.Bounds.{IsSeen, IsSent};
 ghost use Rattle.bus_cycles.specs.Surveys as definition;
 
+use crate::cut::{Seen, is_whole};
 use crate::cycle::{Cycle, Extent};
 use crate::shown::Shown;
 use bus_audit::AuditAnswer;
@@ -25,9 +26,11 @@ pub(crate) struct Survey {
     pub next: Option<u64>,
     /// The last row that takes the moment of the first breach.
     pub marked: Option<Extent>,
-    /// The length of the shortest row in bit times; 0 where there is none.
+    /// How many of them are whole.
+    pub whole: u64,
+    /// The length of the shortest whole row in bit times, drawn or not; 0 where there is none.
     pub least: u64,
-    /// The length of the longest row in bit times, drawn or not; 0 where there is none.
+    /// The length of the longest whole row in bit times, drawn or not; 0 where there is none.
     pub most: u64,
 }
 
@@ -63,6 +66,7 @@ impl Survey {
     {
         Survey {
             count: 0,
+            whole: 0,
             longest: u64::from(cycle.ti),
             next: None,
             marked: None,
@@ -72,20 +76,24 @@ impl Survey {
     }
 
     /// One row more.
-    fn with_row(self, cycle: &Cycle, breach: Option<u64>, row: Extent) -> Survey
+    fn with_row(self, cycle: &Cycle, seen: Seen, breach: Option<u64>, row: Extent) -> Survey
         requires some { 0 < cycle.now.ti }
+        requires seen { IsSeen seen }
         requires few { self.count < 2 ^ 64 - 1 }
+        requires whole { self.whole ≤ self.count }
+        requires begin { row.begin ≤ 2 ^ 42 }
         requires low { row.end ≤ 2 ^ 41 }
         requires moment { IfSome breach (λ moment. moment ≤ 2 ^ 40) }
-        ensures { result ≡ definition.with_row cycle.now breach self row }
+        ensures { result ≡ definition.with_row cycle.now seen breach self row }
     {
         Survey {
             count: self.count + 1,
+            whole: whole_with(cycle, seen, self.whole, row),
             longest: longest_with(cycle.lift, self.longest, row),
             next: next_with(cycle.lift, self.next, row),
             marked: marked_with(cycle, breach, self.marked, row),
-            least: least_with(cycle.lift, self.count, self.least, row),
-            most: self.most.max(length_of(cycle.lift, row)),
+            least: least_where(cycle, seen, self.whole, self.least, row),
+            most: most_where(cycle, seen, self.most, row),
         }
     }
 
@@ -99,6 +107,7 @@ impl Survey {
     {
         Survey {
             count: self.count,
+            whole: self.whole,
             longest: self.longest.max(reach_of(lift, breach, self.marked)),
             next: self.next,
             marked: self.marked,
@@ -116,15 +125,58 @@ pub(crate) fn length_of(lift: u32, row: Extent) -> u64
     (row.end + u64::from(lift)).saturating_sub(row.begin)
 }
 
-/// The least length, with one row more than so many.
-fn least_with(lift: u32, count: u64, least: u64, row: Extent) -> u64
-    requires { row.end ≤ 2 ^ 41 }
-    ensures { result ≡ definition.least_with lift count least row }
+/// How many rows are whole, with one row more.
+fn whole_with(cycle: &Cycle, seen: Seen, whole: u64, row: Extent) -> u64
+    requires seen { IsSeen seen }
+    requires few { whole < 2 ^ 64 - 1 }
+    requires begin { row.begin ≤ 2 ^ 42 }
+    requires low { row.end ≤ 2 ^ 41 }
+    ensures { result ≡ definition.whole_with cycle.now seen whole row }
 {
-    if count == 0 {
+    if is_whole(cycle, seen, row) {
+        whole + 1
+    } else {
+        whole
+    }
+}
+
+/// The least length, with one whole row more than so many.
+fn least_with(lift: u32, whole: u64, least: u64, row: Extent) -> u64
+    requires { row.end ≤ 2 ^ 41 }
+    ensures { result ≡ definition.least_with lift whole least row }
+{
+    if whole == 0 {
         length_of(lift, row)
     } else {
         least.min(length_of(lift, row))
+    }
+}
+
+/// The least length of whole rows, with one row more.
+fn least_where(cycle: &Cycle, seen: Seen, whole: u64, least: u64, row: Extent) -> u64
+    requires seen { IsSeen seen }
+    requires begin { row.begin ≤ 2 ^ 42 }
+    requires low { row.end ≤ 2 ^ 41 }
+    ensures { result ≡ definition.least_where cycle.now seen whole least row }
+{
+    if is_whole(cycle, seen, row) {
+        least_with(cycle.lift, whole, least, row)
+    } else {
+        least
+    }
+}
+
+/// The greatest length of whole rows, with one row more.
+fn most_where(cycle: &Cycle, seen: Seen, most: u64, row: Extent) -> u64
+    requires seen { IsSeen seen }
+    requires begin { row.begin ≤ 2 ^ 42 }
+    requires low { row.end ≤ 2 ^ 41 }
+    ensures { result ≡ definition.most_where cycle.now seen most row }
+{
+    if is_whole(cycle, seen, row) {
+        most.max(length_of(cycle.lift, row))
+    } else {
+        most
     }
 }
 
@@ -209,13 +261,14 @@ fn reach_of(lift: u32, breach: Option<u64>, marked: Option<Extent>) -> u64
 }
 
 /// What is told of the rows of a transmission and those behind it.
-fn survey_from(cycle: &Cycle, breach: Option<u64>, first: &Sent, shown: Shown) -> Survey
+fn survey_from(cycle: &Cycle, seen: Seen, breach: Option<u64>, first: &Sent, shown: Shown) -> Survey
     requires some { 0 < cycle.now.ti }
+    requires seen { IsSeen seen }
     requires sent { IsSent first.now }
     requires each { AllByRecursion IsSent shown }
     requires few { length shown < 2 ^ 64 - 1 }
     requires low { IfSome breach (λ moment. moment ≤ 2 ^ 40) }
-    ensures value { result ≡ definition.told_of cycle.now breach (first.now ∷ shown.entry) }
+    ensures value { result ≡ definition.told_of cycle.now seen breach (first.now ∷ shown.entry) }
     ensures some { cycle.now.ti ≤ result.longest }
     ensures low { result.longest ≤ 2 ^ 41 }
 {
@@ -223,42 +276,45 @@ fn survey_from(cycle: &Cycle, breach: Option<u64>, first: &Sent, shown: Shown) -
     let mut row = cycle.row_at(0, first);
     for sent in shown {
         if cycle.is_new(row.begin, &sent) {
-            survey = survey.with_row(cycle, breach, row);
+            survey = survey.with_row(cycle, seen, breach, row);
             row = cycle.row_at(row.place + 1, &sent);
         } else {
             row = row.with(&sent);
         }
     }
-    survey.with_row(cycle, breach, row)
+    survey.with_row(cycle, seen, breach, row)
 }
 
 /// What is told of all rows of a trace in a window.
-fn tell(cycle: &Cycle, breach: Option<u64>, window: &Window, trace: &Trace) -> Survey
+fn tell(cycle: &Cycle, seen: Seen, breach: Option<u64>, window: &Window, trace: &Trace) -> Survey
     requires some { 0 < cycle.now.ti }
+    requires seen { IsSeen seen }
     requires low { IfSome breach (λ moment. moment ≤ 2 ^ 40) }
-    ensures value { result ≡ definition.told_of cycle.now breach (shown window.now trace.now.list) }
+    ensures value { result ≡ definition.told_of cycle.now seen breach (shown window.now trace.now.list) }
     ensures some { cycle.now.ti ≤ result.longest }
     ensures low { result.longest ≤ 2 ^ 41 }
 {
     let mut shown = Shown::new(window, trace);
     match shown.next() {
         None => Survey::nothing(cycle),
-        Some(first) => survey_from(cycle, breach, &first, shown),
+        Some(first) => survey_from(cycle, seen, breach, &first, shown),
     }
 }
 
 /// What is told of the rows of a trace in a window.
 pub(crate) fn take_survey(
     cycle: &Cycle,
+    seen: Seen,
     breach: Option<u64>,
     window: &Window,
     trace: &Trace,
 ) -> Survey
     requires some { 0 < cycle.now.ti }
+    requires seen { IsSeen seen }
     requires low { IfSome breach (λ moment. moment ≤ 2 ^ 40) }
-    ensures value { result ≡ definition.survey_of cycle.now breach (shown window.now trace.now.list) }
+    ensures value { result ≡ definition.survey_of cycle.now seen breach (shown window.now trace.now.list) }
     ensures some { cycle.now.ti ≤ result.longest }
     ensures low { result.longest ≤ 2 ^ 41 }
 {
-    tell(cycle, breach, window, trace).with_breach(cycle.lift, breach)
+    tell(cycle, seen, breach, window, trace).with_breach(cycle.lift, breach)
 }

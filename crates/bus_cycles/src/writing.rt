@@ -7,7 +7,9 @@ ghost use Rattle.bus_cycles.specs.CyclesTexts.{cycles_text};
 use crate::boxes::put_rows;
 use crate::breach::put_breach;
 use crate::counting::counts;
+use crate::cut::seen_of;
 use crate::cycle::Cycle;
+use crate::due::put_dues;
 use crate::faults::put_faults;
 use crate::load::put_loads;
 use crate::page::Page;
@@ -40,8 +42,8 @@ pub fn write_cycles<K: Sink>(
 {
     let cycle = Cycle::new(table);
     let breach = breach_in(window, told);
-    let survey = take_survey(&cycle, breach, window, trace);
     let counts = counts(window, trace);
+    let survey = take_survey(&cycle, seen_of(&counts), breach, window, trace);
     let page = Page::new(table, &survey, &counts);
     let height = height_of(&page);
     let mut text = TextBuffer::new();
@@ -55,7 +57,8 @@ pub fn write_cycles<K: Sink>(
         trace.list(),
         &counts,
     );
-    put_above(&mut text, sink, &page, &survey, told);
+    put_above(&mut text, sink, &page, &survey, &counts, told);
+    put_dues(&mut text, sink, &page, table);
     put_rows(&mut text, sink, &page, window, trace);
     put_loads(&mut text, sink, &page, window, trace, carrier);
     put_marks(&mut text, sink, &page, table, verdict);

@@ -30,7 +30,7 @@ fn headings_tell_the_verdict_and_the_audit(rt: HostRuntime) -> Result<(), Fail> 
             TABLE,
             TRACE,
             [
-                "<text class=\"verdict\" x=\"200\" y=\"270\">ACCEPT aperiodic, cycle 1130 to 1170 bit times (565 to 585 \u{b5}s)</text>",
+                "<text class=\"verdict\" x=\"200\" y=\"270\">ACCEPT aperiodic, cycle 1\u{2009}130 to 1\u{2009}170 bit times (565 to 585 \u{b5}s)</text>",
                 "<text class=\"answer\" x=\"200\" y=\"480\">LAWFUL, 0 transmissions collided</text>",
             ],
         ),
@@ -38,7 +38,7 @@ fn headings_tell_the_verdict_and_the_audit(rt: HostRuntime) -> Result<(), Fail> 
             short,
             TRACE,
             [
-                "<text class=\"refusal\" x=\"200\" y=\"270\">REFUSE: shortest cycle 1130 bit times, below TI 1131</text>",
+                "<text class=\"refusal\" x=\"200\" y=\"270\">REFUSE: shortest cycle 1\u{2009}130 bit times, below TI 1\u{2009}131</text>",
                 "LAWFUL, 0 transmissions collided",
             ],
         ),

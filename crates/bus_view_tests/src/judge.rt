@@ -18,19 +18,19 @@ WS L0A111 D00001 D00010
 END
 ";
 
-/// The end of its picture, of which 7000 units are the 1150 bit times of the longer row: the first row begins at -10 and the second at
+/// The end of its picture, of which 6700 units are the 1150 bit times of the longer row: the first row begins at -10 and the second at
 /// 1270, a synchronization gap and the greatest terminal gap before its first transmission. Behind the marks of the table are those of the
 /// faults.
-const MARKS: &str = "<rect class=\"fault\" x=\"8250\" y=\"1690\" width=\"40\" height=\"30\">\
+const MARKS: &str = "<rect class=\"fault\" x=\"7960\" y=\"1690\" width=\"40\" height=\"30\">\
 <title>FAULT 1100 2 Early TG 10</title></rect>
-<rect class=\"fault\" x=\"8250\" y=\"1800\" width=\"40\" height=\"30\">\
+<rect class=\"fault\" x=\"7960\" y=\"1800\" width=\"40\" height=\"30\">\
 <title>FAULT 1100 2 Early TG 10</title></rect>
-<text class=\"note\" x=\"8540\" y=\"1795\">fault</text>
-<rect class=\"fault\" x=\"7760\" y=\"1830\" width=\"40\" height=\"30\">\
+<text class=\"note\" x=\"8240\" y=\"1795\">fault</text>
+<rect class=\"fault\" x=\"7500\" y=\"1830\" width=\"40\" height=\"30\">\
 <title>FAULT 2300 1 Late SG 140</title></rect>
-<rect class=\"fault\" x=\"7760\" y=\"1940\" width=\"40\" height=\"30\">\
+<rect class=\"fault\" x=\"7500\" y=\"1940\" width=\"40\" height=\"30\">\
 <title>FAULT 2300 1 Late SG 140</title></rect>
-<text class=\"note\" x=\"8540\" y=\"1935\">fault</text>
+<text class=\"note\" x=\"8240\" y=\"1935\">fault</text>
 </svg>
 ";
 

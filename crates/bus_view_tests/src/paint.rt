@@ -19,37 +19,43 @@ WS L0B210 D00FF1
 END
 ";
 
-/// The end of the picture, of which 7000 units are the 1160 bit times of the longer row: a row of two transmissions, which begins a
+/// The end of the picture, of which 6700 units are the 1160 bit times of the longer row: a row of two transmissions, which begins a
 /// synchronization gap and the greatest terminal gap before the first, the words of one of two that collide, which are drawn after them in
 /// slots of their own, the loads, of 100 bit times and, since those that collide share 30, of 70, the marks, and the first start that is
 /// missing, in the first row.
-const ROWS: &str = "<rect class=\"other\" x=\"7710\" y=\"1700\" width=\"360\" height=\"300\">\
+const ROWS: &str = "<rect class=\"other\" x=\"7440\" y=\"1700\" width=\"350\" height=\"300\">\
 <title>T1 message 1: moments 1020 to 1080, 60 bit times, 510.0 to 540.0 microseconds</title></rect>
-<text class=\"digits\" x=\"7890\" y=\"1885\">1</text>
-<rect class=\"wordstring\" x=\"8250\" y=\"1700\" width=\"250\" height=\"300\">\
+<text class=\"digits\" x=\"7615\" y=\"1885\">1</text>
+<rect class=\"wordstring\" x=\"7960\" y=\"1700\" width=\"240\" height=\"300\">\
 <title>T2 message 1: moments 1110 to 1150, 40 bit times, 555.0 to 575.0 microseconds</title></rect>
-<text class=\"digits\" x=\"8375\" y=\"1885\">2</text>
+<text class=\"digits\" x=\"8080\" y=\"1885\">2</text>
 <text class=\"small\" x=\"200\" y=\"1885\">1</text>
 <text class=\"detail\" x=\"1440\" y=\"1885\">-10</text>
-<text class=\"detail\" x=\"10200\" y=\"1885\">1160</text>
+<text class=\"detail\" x=\"10200\" y=\"1885\">cut 1160</text>
+<text class=\"small\" x=\"8650\" y=\"1885\">1-2</text>
+<rect class=\"unobserved\" x=\"1450\" y=\"1700\" width=\"40\" height=\"300\">\
+<title>cut: the cycle begins at the settled start, or before the window</title></rect>
 <text class=\"small\" x=\"200\" y=\"2205\">2</text>
 <text class=\"detail\" x=\"1440\" y=\"2205\">1370</text>
-<text class=\"detail\" x=\"10200\" y=\"2205\">1100</text>
-<rect class=\"garbled\" x=\"7710\" y=\"2226\" width=\"360\" height=\"88\">\
+<text class=\"detail\" x=\"10200\" y=\"2205\">cut 1100</text>
+<text class=\"small\" x=\"8650\" y=\"2205\">1-2</text>
+<rect class=\"unobserved\" x=\"8030\" y=\"2020\" width=\"200\" height=\"300\">\
+<title>cut: the cycle isn't over where the window or the trace ends</title></rect>
+<rect class=\"garbled\" x=\"7440\" y=\"2026\" width=\"350\" height=\"88\">\
 <title>T1 message 2: moments 2400 to 2460, 60 bit times, 1200.0 to 1230.0 microseconds, garbled</title></rect>
-<text class=\"noise-digits\" x=\"7890\" y=\"2305\">1</text>
-<rect class=\"garbled\" x=\"7890\" y=\"2026\" width=\"240\" height=\"88\">\
+<text class=\"noise-digits\" x=\"7615\" y=\"2105\">1</text>
+<rect class=\"garbled\" x=\"7620\" y=\"2126\" width=\"230\" height=\"88\">\
 <title>T2 message 2: moments 2430 to 2470, 40 bit times, 1215.0 to 1235.0 microseconds, garbled</title></rect>
-<text class=\"noise-digits\" x=\"8010\" y=\"2105\">2</text>
-<text class=\"detail\" x=\"9400\" y=\"1885\">8.6 %</text>
-<text class=\"detail\" x=\"9400\" y=\"2205\">6.4 %</text>
-<rect class=\"mark\" x=\"7534\" y=\"1450\" width=\"10\" height=\"880\"/>
-<text class=\"small\" x=\"7574\" y=\"1530\">SG 1000</text>
-<rect class=\"mark\" x=\"8318\" y=\"1450\" width=\"10\" height=\"880\"/>
-<text class=\"detail\" x=\"8288\" y=\"1630\">least 1130</text>
-<rect class=\"breach\" x=\"1680\" y=\"1660\" width=\"20\" height=\"40\"/>
-<rect class=\"breach\" x=\"1680\" y=\"2000\" width=\"20\" height=\"40\"/>
-<text class=\"note\" x=\"8540\" y=\"1885\">breach</text>
+<text class=\"noise-digits\" x=\"7735\" y=\"2205\">2</text>
+<text class=\"detail\" x=\"9540\" y=\"1885\">8.6 %</text>
+<text class=\"detail\" x=\"9540\" y=\"2205\">6.4 %</text>
+<rect class=\"mark\" x=\"7275\" y=\"1450\" width=\"10\" height=\"880\"/>
+<text class=\"small\" x=\"7315\" y=\"1530\">SG 1000</text>
+<rect class=\"mark\" x=\"8026\" y=\"1450\" width=\"10\" height=\"880\"/>
+<text class=\"detail\" x=\"7996\" y=\"1630\">least 1130</text>
+<rect class=\"breach\" x=\"1670\" y=\"1660\" width=\"20\" height=\"40\"/>
+<rect class=\"breach\" x=\"1670\" y=\"2000\" width=\"20\" height=\"40\"/>
+<text class=\"note\" x=\"8240\" y=\"1885\">breach</text>
 </svg>
 ";
 
@@ -86,9 +92,11 @@ fn a_row_of_a_window_inside_a_cycle(rt: HostRuntime) -> Result<(), Fail> {
     let ran = run_on(&rt, &["cycles", "T", "R", "100", "140"], TABLE, TRACE)?;
     let parts = [
         "moments 100 to 140 of 150: 1 transmission, 0 garbled",
-        "from where it begins: 1 of 1, 70 to 70 bit times long</text>\n",
-        "<rect class=\"wordstring\" x=\"1710\" y=\"1700\" width=\"280\" height=\"120\"><title>T2 message 1: moments 110 to 150, ",
-        "<text class=\"detail\" x=\"1440\" y=\"1795\">80</text>\n<text class=\"detail\" x=\"10200\" y=\"1795\">70</text>\n",
+        "from where it begins: 1 of 1; none whole</text>\n",
+        "<rect class=\"wordstring\" x=\"1700\" y=\"1700\" width=\"260\" height=\"120\"><title>T2 message 1: moments 110 to 150, ",
+        "<text class=\"detail\" x=\"1440\" y=\"1795\">80</text>\n<text class=\"detail\" x=\"10200\" y=\"1795\">cut 70</text>\n",
+        "<rect class=\"unobserved\" x=\"1450\" y=\"1700\" width=\"40\" height=\"120\">",
+        "<rect class=\"unobserved\" x=\"1970\" y=\"1700\" width=\"6260\" height=\"120\">",
     ];
     assert!(rt; shows(&ran, &parts));
     Ok(())
@@ -100,7 +108,8 @@ fn a_window_goes_as_far_as_a_horizon_may(rt: HostRuntime) -> Result<(), Fail> {
     for command in ["svg", "cycles"] {
         let longest = [command, "T", "R", "0", "1099511627776"];
         let ran = run_on(&rt, &longest, TABLE, TRACE)?;
-        let words = "moments 0 to 1099511627776 of 150: 2 transmissions, 0 garbled";
+        let words =
+            "moments 0 to 1\u{2009}099\u{2009}511\u{2009}627\u{2009}776 of 150: 2 transmissions, 0 garbled";
         assert!(rt; shows(&ran, &[words]));
         let longer = [command, "T", "R", "0", "1099511627777"];
         let ran = run_on(&rt, &longer, TABLE, TRACE)?;

@@ -54,12 +54,14 @@ fn a_time_line_has_offsets_and_the_transmit_interval(rt: HostRuntime) -> Result<
 fn a_row_is_a_transmit_interval(rt: HostRuntime) -> Result<(), Fail> {
     let ran = run_on(&rt, &["cycles", "T", "R"], PERIODIC, ROUNDS)?;
     let parts = [
-        "from where it begins: 2 of 2, 150 to 150 bit times long</text>\n",
-        "<rect class=\"wordstring\" x=\"1810\" y=\"1700\" width=\"210\" height=\"120\"><title>T1 message 1: moments 90 to 150, ",
+        "<rect class=\"tick\" x=\"1801\" y=\"1650\" width=\"6\" height=\"320\"/>\n\
+         <rect class=\"tick\" x=\"1500\" y=\"1650\" width=\"6\" height=\"320\"/>\n",
+        "from where it begins: 2 of 2; 1 whole, 150 to 150 bit times long</text>\n",
+        "<rect class=\"wordstring\" x=\"1800\" y=\"1700\" width=\"200\" height=\"120\"><title>T1 message 1: moments 90 to 150, ",
         "<text class=\"detail\" x=\"1440\" y=\"1795\">0</text>\n<text class=\"detail\" x=\"10200\" y=\"1795\">150</text>\n",
-        "<rect class=\"wordstring\" x=\"1810\" y=\"1840\" width=\"210\" height=\"120\"><title>T1 message 2: moments 2090 to 2150, ",
-        "<text class=\"detail\" x=\"1440\" y=\"1935\">2000</text>\n<text class=\"detail\" x=\"10200\" y=\"1935\">150</text>\n",
-        "<text class=\"small\" x=\"8540\" y=\"1530\">TI 2000</text>\n",
+        "<rect class=\"wordstring\" x=\"1800\" y=\"1840\" width=\"200\" height=\"120\"><title>T1 message 2: moments 2090 to 2150, ",
+        "<text class=\"detail\" x=\"1440\" y=\"1935\">2000</text>\n<text class=\"detail\" x=\"10200\" y=\"1935\">cut 150</text>\n",
+        "<text class=\"small\" x=\"8240\" y=\"1530\">TI 2000</text>\n",
     ];
     assert!(rt; shows(&ran, &parts));
     Ok(())
@@ -76,8 +78,8 @@ fn rows_that_are_too_many(rt: HostRuntime) -> Result<(), Fail> {
     text.push_str("END\n")?;
     let ran = run_on(&rt, &["cycles", "T", "R"], PERIODIC, text.as_str())?;
     let parts = [
-        "moments 0 to 1010000 of 1010000: 504 transmissions, 0 garbled",
-        "from where it begins: 500 of 504, 20 to 20 bit times long, the next at 1000000</text>\n",
+        "moments 0 to 1\u{2009}010\u{2009}000 of 1\u{2009}010\u{2009}000: 504 transmissions, 0 garbled",
+        "from where it begins: 500 of 504; 504 whole, 20 to 20 bit times long, the next at 1\u{2009}000\u{2009}000</text>\n",
         "<text class=\"detail\" x=\"1440\" y=\"71655\">998000</text>\n",
     ];
     assert!(rt; shows(&ran, &parts));

@@ -4,7 +4,13 @@ use Rattle.bus_shapes.specs.Scales.{IsScale}
 use Rattle.bus_shapes.specs.declared.sent.Sent.{Sent}
 use Rattle.bus_cycles.specs.Measures.{plain_row, plot_left, split_row}
 use Rattle.bus_cycles.specs.Surveys.{most_rows}
+use Rattle.bus_cycles.specs.declared.cut.Seen.{Seen}
 use Rattle.bus_cycles.specs.declared.page.Page.{Page}
+
+-- The bounds of what is seen.
+pub record IsSeen (seen : Seen) : Type 0 where
+  pub from : seen.from ≤ 2 ^ 41
+  pub to : seen.to ≤ 2 ^ 41
 
 -- The bounds of a page.
 pub record IsPage (page : Page) : Type 0 where
@@ -14,6 +20,7 @@ pub record IsPage (page : Page) : Type 0 where
   pub few : page.rows ≤ most_rows
   pub least : plain_row ≤ page.row_height
   pub most : page.row_height ≤ split_row
+  pub seen : IsSeen page.seen
 
 -- What holds of each transmission that is told of: it doesn't end before it begins, and its numbers are far below the end of their types.
 pub record IsSent (sent : Sent) : Type 0 where

@@ -11,5 +11,5 @@ pub returns : goal.returns
 returns g c =
     subst (λ (t : List ℕ). Adds g.K.Sink.held g.K.Sink.faults c.args.sink.now c.put_number.new.sink c.args.text.now c.put_number.new.text t)
     (ap (λ (k : Class). titled_text k c.args.area (sent_words c.args.sent.now) ++ number_text c.args.area c.args.sent.now)
-    (c.class_of.ensures ∙ ap class_of c.shade_of.ensures.value))
+    (c.class_of.ensures ∙ ap (class_of c.args.area.width) c.shade_of.ensures.value))
     (c.begin_titled.ensures ▸ c.put_sent.ensures ▸ c.end_titled.ensures ▸ c.put_number.ensures)

@@ -28,6 +28,7 @@ loop-sent-init g c =
           (c.put_behind.ensures.keeps [] (reaches_none page c.row_at-row.result.begin)));
       each = subst (AllByRecursion IsSent) same c.requires.each;
       few = omega (arith, c.requires.few, ap length same);
+      begin = c.row_at-row.ensures.begin;
       low = c.row_at-row.ensures.low;
     }
 
@@ -43,6 +44,7 @@ loop-sent-preserved g c =
           c.in-Some.ensures.steps c.loop-sent.invariant.draws) c.put_next.ensures.adds c.put_next.ensures.keeps;
       each = (subst (AllByRecursion IsSent) c.in-Some.ensures.steps c.loop-sent.invariant.each).1;
       few = omega (arith, c.loop-sent.invariant.few, c.put_next.ensures.place, ap length c.in-Some.ensures.steps);
+      begin = c.put_next.ensures.begin;
       low = c.put_next.ensures.low;
     }
 

@@ -12,5 +12,6 @@ invariant-loop-sent g l = record {
       (walk_text l.page l.garbled (rows_of l.page.cycle (l.first ∷ l.fn.left))) l.row l.edges l.sent-iterator;
   each : AllByRecursion IsSent l.sent-iterator;
   few : l.row.place + length l.sent-iterator < 2 ^ 64 - 1;
+  begin : l.row.begin ≤ 2 ^ 42;
   low : l.row.end ≤ 2 ^ 41;
 }

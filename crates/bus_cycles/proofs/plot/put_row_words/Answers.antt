@@ -2,6 +2,7 @@ use Rattle.std.proofs.Common.{ℕ, ◌++◌, codes, subst}
 use Rattle.std.specs.Prelude.{decimal}
 use Rattle.bus_outer.specs.Texts.{Adds}
 use Rattle.bus_outer.proofs.TextLaws.{◌▸◌}
+use Rattle.bus_shapes.specs.Numbers.{parted}
 use Rattle.bus_cycles.specs.CyclesTexts.{lengths_words, next_words}
 use Rattle.bus_cycles.proofs.plot.put_row_words.Goals as goal
 
@@ -9,5 +10,5 @@ pub returns : goal.returns
 returns g c =
     let survey = c.args.survey.now in
     subst (λ (n : ℕ). Adds g.K.Sink.held g.K.Sink.faults c.args.sink.now c.put_next.new.sink c.args.text.now c.put_next.new.text
-    (codes "a row for each cycle, from where it begins: " ++ decimal n ++ codes " of " ++ decimal survey.count ++ lengths_words survey ++ next_words survey.next)) c.min.ensures
-    (c.put.ensures ▸ c.put_number.ensures ▸ c.put-2.ensures ▸ c.put_number-2.ensures ▸ c.put_lengths.ensures ▸ c.put_next.ensures)
+    (codes "a row for each cycle, from where it begins: " ++ parted (decimal n) ++ codes " of " ++ parted (decimal survey.count) ++ lengths_words survey ++ next_words survey.next)) c.min.ensures
+    (c.put.ensures ▸ c.put_parted.ensures ▸ c.put-2.ensures ▸ c.put_parted-2.ensures ▸ c.put_lengths.ensures ▸ c.put_next.ensures)
