@@ -1,6 +1,6 @@
 -- Rows that are cut are drawn open, and whole ones have all of their cycle.
-use Rattle.std.proofs.Common.{◌≡◌, ◌≢◌, ◌↔◌, ℕ, ◌+◌, ◌-◌, ◌*◌, ◌/◌, ◌<◌, ◌≤◌, Bool, true, false, cond, ltb, leb, max, fold, List, [], ◌∷◌, ◌++◌, inl, inr, arith, sym, refl, ap, subst, ◌∙◌}
-use Rattle.std.specs.Prelude.{not, ◌&&◌}
+use Rattle.std.proofs.Common.{◌≡◌, ◌≢◌, ◌↔◌, ℕ, ◌+◌, ◌-◌, ◌*◌, ◌/◌, ◌<◌, ◌≤◌, Bool, true, false, cond, ltb, leb, max, fold, List, [], ◌∷◌, ◌++◌, length, inl, inr, arith, sym, refl, ap, subst, ◌∙◌}
+use Rattle.std.specs.Prelude.{codes, not, ◌&&◌}
 use Rattle.std.specs.List.{AllByRecursion}
 use Rattle.std.proofs.lemmas.Bool.{and_parts, leb-true, ltb-true, ltb-false, not-false, true≢false}
 use Rattle.bus_strings.specs.Members.{In}
@@ -8,6 +8,10 @@ use Rattle.bus_strings.proofs.MemberLaws.{of_each}
 use Rattle.bus_table.specs.declared.mode.Mode.{Mode}
 use Rattle.bus_table.specs.declared.mode.Mode.TheVariants.{Aperiodic}
 use Rattle.bus_table.proofs.ValidLaws.{valid_facts}
+use Rattle.bus_shapes.specs.declared.area.Area.{Area}
+use Rattle.bus_shapes.specs.declared.class.Class.{Class}
+use Rattle.bus_shapes.specs.declared.class.Class.TheVariants.{Unobserved}
+use Rattle.bus_shapes.specs.Shapes.{titled_text}
 use Rattle.bus_shapes.specs.Laws.{PlacesLieWithin, PlacesRise}
 use Rattle.bus_shapes.specs.Scales.{IsScale, place}
 use Rattle.bus_shapes.specs.declared.sent.Sent.{Sent}
@@ -15,18 +19,29 @@ use Rattle.bus_cycles.specs.Cuts.{Seen, is_cut_before, is_cut_before_in, is_cut_
 use Rattle.bus_cycles.specs.Laws.{CutAreOpen, OpenHidesNone, WholeAreSeen}
 use Rattle.bus_cycles.specs.Pages.{Page, page_of}
 use Rattle.bus_cycles.specs.Rows.{Cycle, Extent, Row, cycle_of, end_of_all, extent_of, is_fresh, is_new, row_at, rows, rows_from, rows_of, with_sent}
-use Rattle.bus_cycles.specs.RowTexts.{behind_left, left_of, pixel, right_of}
+use Rattle.bus_cycles.specs.RowTexts.{before_area, behind_area, behind_left, left_of, pixel, right_of}
 use Rattle.bus_cycles.specs.Sents.{shown}
 use Rattle.bus_cycles.proofs.WordLemmas.{pixel_rises}
 
 -- ---- open where cut
--- a text that begins with a byte is drawn exactly where it is
-drawn_where : (b : Bool) (byte : ℕ) (text : List ℕ) → (cond b (byte ∷ text) [] ≢ []) ↔ (b ≡ true)
-drawn_where true byte text = (λ h. refl, λ h e. absurd cc)
-drawn_where false byte text = (λ h. absurd (h refl), λ h. absurd cc)
+-- a text that is some is drawn exactly where it is
+drawn_where : (b : Bool) (text : List ℕ) → text ≢ [] → (cond b text [] ≢ []) ↔ (b ≡ true)
+drawn_where true text some = (λ h. refl, λ h. some)
+drawn_where false text some = (λ h. absurd (h refl), λ h. absurd cc)
+
+-- a text whose front is some
+some_text : (a b c d : List ℕ) → 0 < length a → ((a ++ b) ++ c) ++ d ≢ []
+some_text [] b c d h = absurd (omega arith)
+some_text (x ∷ xs) b c d h = λ e. absurd cc
+
+box_is_some : (class : Class) (area : Area) (words : List ℕ) → titled_text class area words ≢ []
+box_is_some class area words = some_text (codes "<rect class=\"") _ _ _ (omega arith)
 
 pub open_where_cut : CutAreOpen
-open_where_cut page row = (drawn_where (is_cut_before page.cycle page.seen row) _ _, drawn_where (is_cut_behind page.cycle page.seen row) _ _)
+open_where_cut page row = (
+  drawn_where (is_cut_before page.cycle page.seen row) _ (box_is_some Unobserved (before_area page row.place) _),
+  drawn_where (is_cut_behind page.cycle page.seen row) _ (box_is_some Unobserved (behind_area page row) _),
+)
 
 -- ---- what that hides
 ends_within : (sents : List Sent) (sent : Sent) (so_far : ℕ) → In sent sents → sent.end ≤ fold (λ end (s : Sent). max end s.end) so_far sents
