@@ -9,9 +9,9 @@ use Rattle.bus_strings.specs.Members.{In}
 use Rattle.bus_table.specs.Tables.{Table}
 use Rattle.bus_table.specs.Valid.{is_valid}
 use Rattle.bus_regime.specs.Verdicts.{is_accepted, verdict_of}
-use Rattle.bus_margins.specs.Least as aperiodic
+use Rattle.bus_margins.specs.Least as aperiodic_least
 use Rattle.bus_margins.specs.declared.room.Room.{Room as AperiodicRoom}
-use Rattle.bus_margins_periodic.specs.Least as periodic
+use Rattle.bus_margins_periodic.specs.Least as periodic_least
 use Rattle.bus_margins_periodic.specs.declared.room.Room.{Room as PeriodicRoom}
 use Rattle.bus_reach.specs.declared.limit.Limit.{Limit}
 use Rattle.bus_reach.specs.Bearing.{bears, greatest_to, tolerance_of}
@@ -26,7 +26,7 @@ use Rattle.bus_page.specs.Rooms.{Span, aperiodic_span, is_short, periodic_span}
 one_bears : (d : ℕ) (limits : List Limit) (limit : Limit) → list_all (is_borne d) limits ≡ true → In limit limits → is_borne d limit ≡ true
 one_bears d [] limit h i = absurd i
 one_bears d (first ∷ limits) limit h (inl same) =
-    subst (λ l. is_borne d l ≡ true) same (and_parts (is_borne d first) (list_all (is_borne d) limits) h).0
+    subst (λ l. is_borne d l ≡ true) (sym same) (and_parts (is_borne d first) (list_all (is_borne d) limits) h).0
 one_bears d (first ∷ limits) limit h (inr i) = one_bears d limits limit (and_parts (is_borne d first) (list_all (is_borne d) limits) h).1 i
 
 -- what is borne alone is the tolerance, where no more is borne
@@ -34,7 +34,8 @@ by_borne : (d : ℕ) (bears : Option ℕ) → option_map_or (λ most. nat_le d m
     → (is_least (Some d) bears ≡ true) ↔ (option_map_or (λ most. nat_le (d + 1) most) bears true ≡ false)
 by_borne d None h = (λ k. absurd cc, λ k. absurd cc)
 by_borne d (Some most) h =
-    let low : d ≤ most = grind (arith, nat_tests) in
+    let told : nat_le d most ≡ true = h in
+    let low : d ≤ most = grind (arith, nat_tests, told) in
     (λ k. grind (arith, nat_tests, k), λ k. grind (arith, nat_tests, k, low))
 
 -- the tolerance is borne
@@ -61,6 +62,10 @@ lacks need have = (λ k. grind (arith, nat_tests, k), λ k. grind (arith, nat_te
 
 pub rooms_are_the_rules : RoomsAreTheRules
 rooms_are_the_rules = record {
-  aperiodic = λ room span is. (let same : record { need = room.need; have = room.have } ≡ span = cc in subst (λ (s : Span). (is_short s ≡ true) ↔ (aperiodic.holds (Some room) ≡ false)) same (lacks room.need room.have));
-  periodic = λ room span is. (let same : record { need = room.need; have = room.have } ≡ span = cc in subst (λ (s : Span). (is_short s ≡ true) ↔ (periodic.holds (Some room) ≡ false)) same (lacks room.need room.have));
+  aperiodic = λ room span is. 
+      (let same : span ≡ record { need = room.need; have = room.have } = cc in
+      subst (λ (s : Span). (is_short s ≡ true) ↔ (aperiodic_least.holds (Some room) ≡ false)) (sym same) (lacks room.need room.have));
+  periodic = λ room span is. 
+      (let same : span ≡ record { need = room.need; have = room.have } = cc in
+      subst (λ (s : Span). (is_short s ≡ true) ↔ (periodic_least.holds (Some room) ≡ false)) (sym same) (lacks room.need room.have));
 }

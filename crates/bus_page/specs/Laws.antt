@@ -10,9 +10,9 @@ use Rattle.bus_table.specs.Tables.{Sender, Table}
 use Rattle.bus_table.specs.Valid.{is_valid}
 use Rattle.bus_explain.specs.Accepted.{IsAcceptedWith}
 use Rattle.bus_margins.specs.declared.room.Room.{Room as AperiodicRoom}
-use Rattle.bus_margins.specs.Least as aperiodic
+use Rattle.bus_margins.specs.Least as aperiodic_least
 use Rattle.bus_margins_periodic.specs.declared.room.Room.{Room as PeriodicRoom}
-use Rattle.bus_margins_periodic.specs.Least as periodic
+use Rattle.bus_margins_periodic.specs.Least as periodic_least
 use Rattle.bus_reach.specs.declared.limit.Limit.{Limit}
 use Rattle.bus_reach.specs.Bearing.{bears, tolerance_of}
 use Rattle.bus_reach.specs.Latency.{latency}
@@ -56,9 +56,9 @@ BarsAreTheRules = (table : Table) → IsTrue (is_valid table) → IsTrue (is_acc
 -- A rule of the margins stands out exactly where it lacks.
 pub record RoomsAreTheRules : Type 0 where
   pub aperiodic : (room : AperiodicRoom) (span : Span) → aperiodic_span (Some room) ≡ Some span
-      → (is_short span ≡ true) ↔ (aperiodic.holds (Some room) ≡ false)
+      → (is_short span ≡ true) ↔ (aperiodic_least.holds (Some room) ≡ false)
   pub periodic : (room : PeriodicRoom) (span : Span) → periodic_span (Some room) ≡ Some span
-      → (is_short span ≡ true) ↔ (periodic.holds (Some room) ≡ false)
+      → (is_short span ≡ true) ↔ (periodic_least.holds (Some room) ≡ false)
 
 -- ---- cycles
 -- The gap of each of these turns begins where the message of the one before it ends, and that of the first here.

@@ -47,7 +47,8 @@ fn an_accepted_aperiodic_table(rt: HostRuntime) -> Result<(), Fail> {
             b"<dd>92.5 %</dd>",
             b"<dd>19 bit times (9.5 \xc2\xb5s)</dd>",
             b"T90 9164",
-            b"T44 1220",
+            b"T90: 10284 bit times (5142 \xc2\xb5s), from 764 to 11048",
+            b"T128: 420 bit times (210 \xc2\xb5s), from 12664 to 13084",
             b"23368 bit times (11684 \xc2\xb5s)",
             b"tester 1",
             b"50FCE854",
@@ -62,6 +63,7 @@ fn an_accepted_periodic_table(rt: HostRuntime) -> Result<(), Fail> {
         PERIODIC,
         &[
             b"<p><code>ACCEPT periodic 4000 4000</code></p>",
+            b"T2: 340 bit times (170 \xc2\xb5s), from 200 to 540",
             b"gap before T1: 2860 bit times (1430 \xc2\xb5s); it synchronizes all",
             b"gap before T2: 20 bit times (10 \xc2\xb5s); it synchronizes nobody",
             b"every delay",
