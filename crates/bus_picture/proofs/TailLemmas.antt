@@ -3,7 +3,7 @@ use Rattle.std.proofs.Common.{◌≡◌, ℕ, zero, suc, ◌+◌, ◌-◌, ◌<�
 use Rattle.std.specs.Prelude.{nat_lt}
 use Rattle.std.specs.List.{count_by, range_with_len, sum_by}
 use Rattle.std.proofs.lemmas.Bool.{and_parts, ltb-true}
-use Rattle.std.proofs.lemmas.List.Sums.{sum_by-append}
+use Rattle.std.proofs.lemmas.List.Sums.{sum_by-append, sum_by-cons}
 use Rattle.bus_strings.specs.Marking.{greatest_end}
 use Rattle.bus_strings.specs.Members.{In}
 use Rattle.bus_strings.specs.Messages.{Entry}
@@ -28,23 +28,31 @@ all_ended e (y ∷ ys) x (inr i) = all_ended (max e (end_of y)) ys x i
 quiet_tail : (list : List Entry) (t : ℕ) → greatest_end list ≤ t → carrier list t ≡ false
 quiet_tail list t h = no_carrier list t (λ x i. inl (omega (arith, all_ended 0 list x i)))
 
+abbrev bit : Bool → ℕ
+bit b = cond b 1 0
+
 none_counted : (list : List Entry) (a n : ℕ) → greatest_end list ≤ a → count_by (carrier list) (range_with_len a n) ≡ 0
 none_counted list a zero h = refl
 none_counted list a (suc n) h =
-    let none : cond (carrier list a) 1 0 ≡ 0 = ap (λ b. cond b 1 0) (quiet_tail list a h) in
-    omega (arith, none, none_counted list (a + 1) n (omega arith))
+    let one : ℕ → ℕ = λ k. bit (carrier list k) in
+    let none : one a ≡ 0 = ap bit (quiet_tail list a h) in
+    let rest : sum_by one (range_with_len (a + 1) n) ≡ 0 = none_counted list (a + 1) n (omega arith) in
+    sum_by-cons one a (range_with_len (a + 1) n)
+    ∙ (let e : one a + sum_by one (range_with_len (a + 1) n) ≡ 0 = omega (arith, none, rest) in e)
 
 parts : (a m n : ℕ) → range_with_len a (m + n) ≡ range_with_len a m ++ range_with_len (a + m) n
-parts a zero n = ap (λ k. range_with_len k n) (let e : a ≡ a + 0 = omega arith in e)
+parts a zero n =
+    ap (range_with_len a) (let e : 0 + n ≡ n = omega arith in e) ∙ ap (λ k. range_with_len k n) (let e : a ≡ a + 0 = omega arith in e)
 parts a (suc m) n =
-    ap (λ (l : List ℕ). a ∷ l) (parts (a + 1) m n
+    ap (range_with_len a) (let e : suc m + n ≡ suc (m + n) = omega arith in e)
+    ∙ ap (λ (l : List ℕ). a ∷ l) (parts (a + 1) m n
     ∙ ap (λ k. range_with_len (a + 1) m ++ range_with_len k n) (let e : a + 1 + m ≡ a + suc m = omega arith in e))
 
 same_bits : (list : List Entry) (from e to : ℕ) → greatest_end list ≤ e → from ≤ e → e ≤ to
     → count_by (carrier list) (range_with_len from (to - from)) ≡ count_by (carrier list) (range_with_len from (e - from))
 same_bits list from e to h f t =
     let all : to - from ≡ (e - from) + (to - e) = omega arith in
-    let one : ℕ → ℕ = λ k. cond (carrier list k) 1 0 in
+    let one : ℕ → ℕ = λ k. bit (carrier list k) in
     ap (λ n. count_by (carrier list) (range_with_len from n)) all
     ∙ ap (count_by (carrier list)) (parts from (e - from) (to - e))
     ∙ sum_by-append one (range_with_len from (e - from)) (range_with_len (from + (e - from)) (to - e))
