@@ -62,10 +62,10 @@ lacks need have = (λ k. grind (arith, nat_tests, k), λ k. grind (arith, nat_te
 
 pub rooms_are_the_rules : RoomsAreTheRules
 rooms_are_the_rules = record {
-  aperiodic = λ room span is. 
+  aperiodic = λ room span is.
       (let same : span ≡ record { need = room.need; have = room.have } = cc in
       subst (λ (s : Span). (is_short s ≡ true) ↔ (aperiodic_least.holds (Some room) ≡ false)) (sym same) (lacks room.need room.have));
-  periodic = λ room span is. 
+  periodic = λ room span is.
       (let same : span ≡ record { need = room.need; have = room.have } = cc in
       subst (λ (s : Span). (is_short s ≡ true) ↔ (periodic_least.holds (Some room) ≡ false)) (sym same) (lacks room.need room.have));
 }

@@ -1,6 +1,6 @@
 -- How much room a table leaves by each rule of the margins within bounds: a bar for each, as long as what there is, with a stroke at what
 -- the rule needs of it. Each has a scale of its own.
-use Rattle.std.specs.Prelude.{ℕ, ◌+◌, ◌*◌, ◌^◌, Bool, nat_lt, min, max, List, [], ◌++◌, codes, decimal, Option, Some, None, pos, ◌-ℤ◌}
+use Rattle.std.specs.Prelude.{ℕ, ◌+◌, ◌-◌, ◌*◌, ◌^◌, Bool, nat_lt, min, max, List, [], ◌++◌, codes, decimal, Option, Some, None, pos, ◌-ℤ◌}
 use Rattle.std.specs.Fmt.{signed_decimal}
 use Rattle.bus_bounds.specs.Bounds.{Bounds}
 use Rattle.bus_table.specs.declared.mode.Mode.{Mode}

@@ -173,11 +173,11 @@ fn periodic_words(level: PeriodicLevel) -> &'static [u8]
 }
 
 /// The bounds that are asked for; where none are, oscillators are off by up to 50 millionths, and nothing else is inexact.
-pub(crate) fn bounds_of(asked: Option<Bounds>) -> Bounds
-    ensures { result ≡ definition.bounds_of asked }
+pub(crate) fn bounds_of(asked: &Option<Bounds>) -> Bounds
+    ensures { result ≡ definition.bounds_of asked.now }
 {
     match asked {
-        Some(bounds) => bounds,
+        Some(bounds) => *bounds,
         None => drift(),
     }
 }

@@ -114,12 +114,12 @@ fn put_pictures<K: Sink>(
     text: &mut TextBuffer,
     sink: &mut K,
     table: &Table,
-    asked: Option<Bounds>,
+    asked: &Option<Bounds>,
     figures: &Figures,
 )
     requires { AreFigures table.now figures.now }
     ensures { Adds K.held K.faults sink.old sink.new text.old text.new
-        (definition.pictures_text asked table.now figures.now.least figures.now.most) }
+        (definition.pictures_text asked.now table.now figures.now.least figures.now.most) }
 {
     put_cycle_picture(text, sink, table, figures);
     put_limits(text, sink, table, figures);
@@ -131,13 +131,13 @@ fn put_pictures<K: Sink>(
 /// Writes what stands before the sentences of an accepted table.
 fn write_accepted_front<K: Sink>(
     table: &Table,
-    asked: Option<Bounds>,
+    asked: &Option<Bounds>,
     figures: &Figures,
     sink: &mut K,
 ) -> Result<(), WriteFault>
     requires { AreFigures table.now figures.now }
     ensures { WritesText K.held K.faults sink.old sink.new result
-        (definition.accepted_front asked table.now figures.now.least figures.now.most) }
+        (definition.accepted_front asked.now table.now figures.now.least figures.now.most) }
 {
     table_is_valid(table);
     let mut text = TextBuffer::new();
@@ -165,11 +165,11 @@ fn write_accepted_end<K: Sink>(
     program: &[u8],
     bytes: &[u8],
     table: &Table,
-    asked: Option<Bounds>,
+    asked: &Option<Bounds>,
     sink: &mut K,
 ) -> Result<(), WriteFault>
     ensures { WritesText K.held K.faults sink.old sink.new result
-        (definition.asked_text asked table.now ++ foot_text program.now bytes.now) }
+        (definition.asked_text asked.now table.now ++ foot_text program.now bytes.now) }
 {
     write_asked(table, asked, sink)?;
     write_foot(program, bytes, sink)
@@ -180,14 +180,14 @@ fn write_accepted_rest<K: Sink>(
     program: &[u8],
     bytes: &[u8],
     table: &Table,
-    asked: Option<Bounds>,
+    asked: &Option<Bounds>,
     figures: &Figures,
     sink: &mut K,
 ) -> Result<(), WriteFault>
     requires { AreFigures table.now figures.now }
     ensures { WritesText K.held K.faults sink.old sink.new result
         (definition.accepted_sentences table.now figures.now.least figures.now.most
-        ++ (definition.asked_text asked table.now ++ foot_text program.now bytes.now)) }
+        ++ (definition.asked_text asked.now table.now ++ foot_text program.now bytes.now)) }
 {
     write_sentences(table, figures, sink)?;
     write_accepted_end(program, bytes, table, asked, sink)
@@ -198,13 +198,13 @@ fn write_accepted_page<K: Sink>(
     program: &[u8],
     bytes: &[u8],
     table: &Table,
-    asked: Option<Bounds>,
+    asked: &Option<Bounds>,
     figures: &Figures,
     sink: &mut K,
 ) -> Result<(), WriteFault>
     requires { AreFigures table.now figures.now }
     ensures { WritesText K.held K.faults sink.old sink.new result
-        (definition.accepted_page program.now bytes.now asked table.now figures.now.least figures.now.most) }
+        (definition.accepted_page program.now bytes.now asked.now table.now figures.now.least figures.now.most) }
 {
     write_accepted_front(table, asked, figures, sink)?;
     write_accepted_rest(program, bytes, table, asked, figures, sink)
@@ -219,12 +219,12 @@ pub fn write_page<K: Sink>(
     program: &[u8],
     bytes: &[u8],
     table: &Table,
-    asked: Option<Bounds>,
+    asked: &Option<Bounds>,
     findings: &Findings,
     sink: &mut K,
 ) -> Result<(), WriteFault>
     requires { AreFindings table.now findings.now }
-    ensures { WritesText K.held K.faults sink.old sink.new result (definition.table_page program.now bytes.now asked table.now) }
+    ensures { WritesText K.held K.faults sink.old sink.new result (definition.table_page program.now bytes.now asked.now table.now) }
 {
     match findings {
         Findings::Accepted(figures) => {

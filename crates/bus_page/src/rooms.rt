@@ -142,12 +142,12 @@ pub(crate) fn put_rooms<K: Sink>(
     text: &mut TextBuffer,
     sink: &mut K,
     table: &Table,
-    asked: Option<Bounds>,
+    asked: &Option<Bounds>,
 )
-    ensures { Adds K.held K.faults sink.old sink.new text.old text.new (definition.rooms_text asked table.now) }
+    ensures { Adds K.held K.faults sink.old sink.new text.old text.new (definition.rooms_text asked.now table.now) }
 {
     match asked {
-        Some(bounds) => put_section_of(text, sink, table, bounds),
+        Some(bounds) => put_section_of(text, sink, table, *bounds),
         None => text.put(sink, b""),
     }
 }

@@ -93,13 +93,13 @@ fn write_margins_section<K: Sink>(
 /// Writes both where bounds are asked for.
 pub(crate) fn write_asked<K: Sink>(
     table: &Table,
-    asked: Option<Bounds>,
+    asked: &Option<Bounds>,
     sink: &mut K,
 ) -> Result<(), WriteFault>
-    ensures { WritesText K.held K.faults sink.old sink.new result (definition.asked_text asked table.now) }
+    ensures { WritesText K.held K.faults sink.old sink.new result (definition.asked_text asked.now table.now) }
 {
     match asked {
-        Some(bounds) => write_margins_section(table, bounds, sink),
+        Some(bounds) => write_margins_section(table, *bounds, sink),
         None => Ok(()),
     }
 }

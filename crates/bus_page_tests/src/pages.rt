@@ -28,7 +28,7 @@ fn has_parts(rt: &(impl Abort + AllocGlobal), text: &[u8], parts: &[&[u8]]) -> R
     let table = read_table(alloc, text)?;
     let findings = find(alloc, &table)?;
     let mut sink = MemorySink::new(alloc, 100_000, 4096, Vec::new(alloc))?;
-    assert!(rt; write_page(b"tester 1", text, &table, None, &findings, &mut sink).is_ok());
+    assert!(rt; write_page(b"tester 1", text, &table, &None, &findings, &mut sink).is_ok());
     for part in parts {
         assert!(rt; has(sink.bytes(), part));
     }

@@ -9,7 +9,8 @@ use bus_command::{About, tell};
 use bus_outer::Sink;
 
 /// The help, which `docs/bus629-view.help` has too.
-pub const HELP: &[u8] = b"bus629-view shows recorded traces of buses after ARINC 629 (Basic Protocol). It writes them as Value
+pub const HELP: &[u8] =
+    b"bus629-view shows recorded traces of buses after ARINC 629 (Basic Protocol). It writes them as Value
 Change Dumps (IEEE 1364), which wave viewers such as GTKWave read (sigrok and PulseView only wires),
 and as SVG pictures, which browsers show; and on a table one HTML page for who reviews it. What it
 writes is proved.

@@ -49,7 +49,7 @@ fn page_table<K: Sink>(
         Ok(findings) => {
             let answer = answer_to(table, &findings);
             after_writing(
-                write_page(version(), text, table, asked, &findings, out),
+                write_page(version(), text, table, &asked, &findings, out),
                 answer,
             )
         }

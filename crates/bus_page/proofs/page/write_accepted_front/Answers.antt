@@ -14,12 +14,12 @@ use Rattle.bus_page.proofs.page.write_accepted_front.Goals as goal
 
 pub returns : goal.returns
 returns g c =
-    let text : TableVerdict → Bounds → Option ℕ → List ℕ = λ v b d. head_text v ++ heading_text true ++ verdict_text v ++ figures_text b c.args.table.now c.args.figures.now.least c.args.figures.now.most d ++ pictures_text c.args.asked c.args.table.now c.args.figures.now.least c.args.figures.now.most ++ resting_text ++ section_text (codes "What it means") ++ codes "<pre>" in
+    let text : TableVerdict → Bounds → Option ℕ → List ℕ = λ v b d. head_text v ++ heading_text true ++ verdict_text v ++ figures_text b c.args.table.now c.args.figures.now.least c.args.figures.now.most d ++ pictures_text c.args.asked.now c.args.table.now c.args.figures.now.least c.args.figures.now.most ++ resting_text ++ section_text (codes "What it means") ++ codes "<pre>" in
     ends_text g.K.Sink.held g.K.Sink.faults c.args.sink.now c.put.new.sink c.finish.new.sink c.new-text.result c.put.new.self c.finish.result _ c.finish.ensures
     (subst (λ (t : List ℕ). Adds g.K.Sink.held g.K.Sink.faults c.args.sink.now c.put.new.sink c.new-text.result c.put.new.self t)
     (ap (λ (x : TableVerdict). text x c.bounds_of.result c.args.figures.now.tolerance) (c.requires.verdict)
     ∙ ap (λ (x : Bounds). text (verdict_of c.args.table.now) x c.args.figures.now.tolerance) c.bounds_of.ensures
-    ∙ ap (λ (x : Option ℕ). text (verdict_of c.args.table.now) (bounds_of c.args.asked) x) (c.requires.tolerance))
+    ∙ ap (λ (x : Option ℕ). text (verdict_of c.args.table.now) (bounds_of c.args.asked.now) x) (c.requires.tolerance))
     (c.put_head.ensures ▸ c.put_heading.ensures ▸ c.put_verdict_line.ensures ▸ c.put_figures.ensures ▸ c.put_pictures.ensures ▸ c.put_premises.ensures ▸ c.put_section.ensures ▸ c.put.ensures)) c.new-text.ensures
 
 pub put_figures-requires-clause-least : goal.put_figures-requires-clause-least

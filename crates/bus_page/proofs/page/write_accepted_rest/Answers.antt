@@ -8,9 +8,9 @@ use Rattle.bus_page.proofs.page.write_accepted_rest.Goals as goal
 pub returns : goal.returns
 returns g c =
     writes_then g.K.Sink.held g.K.Sink.faults c.args.sink.now c.write_sentences.new.sink c.write_accepted_end.new.sink c.in_ok-write_sentences.field-0 c.write_accepted_end.result
-    (accepted_sentences c.args.table.now c.args.figures.now.least c.args.figures.now.most) (asked_text c.args.asked c.args.table.now ++ foot_text c.args.program.now c.args.bytes.now) c.in_ok-write_sentences.ensures c.write_accepted_end.ensures
+    (accepted_sentences c.args.table.now c.args.figures.now.least c.args.figures.now.most) (asked_text c.args.asked.now c.args.table.now ++ foot_text c.args.program.now c.args.bytes.now) c.in_ok-write_sentences.ensures c.write_accepted_end.ensures
 
 pub returns-in_err-write_sentences : goal.returns-in_err-write_sentences
 returns-in_err-write_sentences g c =
     text_cut g.K.Sink c.args.sink.now c.write_sentences.new.sink c.in_err-write_sentences.field-0.0 c.from_residual.result
-    (accepted_sentences c.args.table.now c.args.figures.now.least c.args.figures.now.most) (asked_text c.args.asked c.args.table.now ++ foot_text c.args.program.now c.args.bytes.now) c.in_err-write_sentences.ensures c.from_residual.ensures.1
+    (accepted_sentences c.args.table.now c.args.figures.now.least c.args.figures.now.most) (asked_text c.args.asked.now c.args.table.now ++ foot_text c.args.program.now c.args.bytes.now) c.in_err-write_sentences.ensures c.from_residual.ensures.1

@@ -13,7 +13,7 @@ returns-in-Accepted g c =
     let table = c.args.table.now in
     let own : AreFigures table c.in-Accepted.figures = subst (AreFindings table) c.in-Accepted.is c.requires in
     subst (λ (t : List ℕ). WritesText g.K.Sink.held g.K.Sink.faults c.args.sink.now c.write_accepted_page.new.sink c.write_accepted_page.result t)
-    (ap (λ (v : TableVerdict). page_with c.args.program.now c.args.bytes.now c.args.asked v table) (sym own.accepted.1)) c.write_accepted_page.ensures
+    (ap (λ (v : TableVerdict). page_with c.args.program.now c.args.bytes.now c.args.asked.now v table) (sym own.accepted.1)) c.write_accepted_page.ensures
 
 pub returns-in-Refused : goal.returns-in-Refused
 unfolding table_page
@@ -23,5 +23,5 @@ returns-in-Refused g c =
     let bytes = c.args.bytes.now in
     let own : IsRefusalOf table c.in-Refused.refusal = subst (AreFindings table) c.in-Refused.is c.requires in
     subst (λ (t : List ℕ). WritesText g.K.Sink.held g.K.Sink.faults c.args.sink.now c.write_refused_page.new.sink c.write_refused_page.result t)
-    (ap (λ (v : TableVerdict). refused_page program bytes v table) own.verdict ∙ refused_is program bytes c.args.asked (verdict_of table) table own.refused)
+    (ap (λ (v : TableVerdict). refused_page program bytes v table) own.verdict ∙ refused_is program bytes c.args.asked.now (verdict_of table) table own.refused)
     c.write_refused_page.ensures
