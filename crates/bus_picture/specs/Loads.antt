@@ -58,13 +58,15 @@ up_to scale end = record { from = scale.from; to = end; left = scale.left; width
 abbrev pub load_heading : Scale → List Entry → List ℕ
 load_heading scale list = words_text Counts right_margin answer_line (codes "load " ++ load_words scale (bus_bits scale list))
 
--- Below it that up to the last end of a list, where the scale goes on behind that, with nothing on the bus.
+-- Below it that of a scale which ends with the last transmission.
+abbrev pub front_load : Scale → List Entry → List ℕ
+front_load front list =
+    words_text Detail right_margin tail_line (load_words front (bus_bits front list) ++ codes " up to the last end")
+
+-- It stands there where the scale goes on behind the last end of the list, with nothing on the bus.
 abbrev pub tail_heading : Scale → List Entry → List ℕ
 tail_heading scale list =
-    if goes_on scale (greatest_end list)
-    then words_text Detail right_margin tail_line
-    (load_words (up_to scale (greatest_end list)) (bus_bits (up_to scale (greatest_end list)) list) ++ codes " up to the last end")
-    else []
+    if goes_on scale (greatest_end list) then front_load (up_to scale (greatest_end list)) list else []
 
 -- This load right of a row, on this line.
 abbrev pub load_text : Scale → ℕ → ℕ → List ℕ

@@ -123,6 +123,40 @@ fn put_share_to<K: Sink>(
     put_load_words(text, sink, scale, bits);
 }
 
+/// The load of the bus in a scale that ends with the last transmission.
+fn put_front_load<K: Sink>(
+    text: &mut TextBuffer,
+    sink: &mut K,
+    front: &Scale,
+    list: &[Transmission],
+    carrier: &[Stretch],
+)
+    requires scale { IsScale front.now }
+    requires carrier { IsCarrierOf carrier.now list.now }
+    ensures { Adds K.held K.faults sink.old sink.new text.old text.new (definition.front_load front.now list.now) }
+{
+    begin_words(text, sink, Class::Detail, RIGHT_MARGIN, TAIL_LINE);
+    put_share_to(text, sink, front, list, carrier);
+    text.put(sink, b" up to the last end");
+    end_words(text, sink);
+}
+
+/// A scale up to a moment that it has.
+fn up_to(scale: &Scale, end: u64) -> Scale
+    requires scale { IsScale scale.now }
+    requires some { scale.now.from < end }
+    requires within { end < scale.now.to }
+    ensures value { result ≡ definition.up_to scale.now end }
+    ensures scale { IsScale result }
+{
+    Scale {
+        from: scale.from,
+        to: end,
+        left: scale.left,
+        width: scale.width,
+    }
+}
+
 /// That up to the last end, where the scale goes on behind it.
 fn put_tail<K: Sink>(
     text: &mut TextBuffer,
@@ -137,16 +171,7 @@ fn put_tail<K: Sink>(
 {
     let end = last_end(list);
     if scale.from < end && end < scale.to {
-        let front = Scale {
-            from: scale.from,
-            to: end,
-            left: scale.left,
-            width: scale.width,
-        };
-        begin_words(text, sink, Class::Detail, RIGHT_MARGIN, TAIL_LINE);
-        put_share_to(text, sink, &front, list, carrier);
-        text.put(sink, b" up to the last end");
-        end_words(text, sink);
+        put_front_load(text, sink, &up_to(scale, end), list, carrier);
     }
 }
 

@@ -1,4 +1,4 @@
-use Rattle.std.proofs.Common.{ℕ, ◌+◌, ◌-◌, ◌++◌, ap, subst, ◌∙◌}
+use Rattle.std.proofs.Common.{◌≡◌, ℕ, ◌+◌, ◌-◌, ◌++◌, ap, subst, ◌∙◌}
 use Rattle.bus_outer.specs.Texts.{Adds}
 use Rattle.bus_outer.proofs.TextLaws.{◌▸◌}
 use Rattle.bus_shapes.specs.declared.area.Area.{Area}
