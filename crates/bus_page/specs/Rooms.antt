@@ -47,8 +47,11 @@ abbrev pub span_words : Span → List ℕ
 span_words span = codes "needs " ++ decimal span.need ++ codes " ns of " ++ decimal span.have ++ codes " ns"
 
 -- The room, which is below 0 where there is less than the rule needs.
+abbrev pub nanoseconds_word : Span → List ℕ
+nanoseconds_word span = signed_decimal (pos span.have -ℤ pos span.need)
+
 abbrev pub room_words : Span → List ℕ
-room_words span = codes "room " ++ signed_decimal (pos span.have -ℤ pos span.need) ++ codes " ns"
+room_words span = codes "room " ++ nanoseconds_word span ++ codes " ns"
 
 -- What there is as a bar.
 abbrev pub have_area : Scale → (top : ℕ) → Span → Area

@@ -85,12 +85,19 @@ fn put_span_words<K: Sink>(text: &mut TextBuffer, sink: &mut K, span: Span)
     text.put(sink, b" ns");
 }
 
+/// Puts how much room there is.
+fn put_nanoseconds<K: Sink>(text: &mut TextBuffer, sink: &mut K, span: Span)
+    ensures { Adds K.held K.faults sink.old sink.new text.old text.new (definition.nanoseconds_word span) }
+{
+    text.put_number(sink, span.room());
+}
+
 /// Puts the room.
 fn put_room_words<K: Sink>(text: &mut TextBuffer, sink: &mut K, span: Span)
     ensures { Adds K.held K.faults sink.old sink.new text.old text.new (definition.room_words span) }
 {
     text.put(sink, b"room ");
-    text.put_number(sink, span.room());
+    put_nanoseconds(text, sink, span);
     text.put(sink, b" ns");
 }
 

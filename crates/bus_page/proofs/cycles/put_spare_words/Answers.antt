@@ -11,6 +11,6 @@ pub returns : goal.returns
 returns g c =
     let text : ℕ → ℕ → List ℕ = λ x1 n. number_words IntervalWords (x1 - 60) 315 (codes "spare ") n in
     subst (λ (t : List ℕ). Adds g.K.Sink.held g.K.Sink.faults c.args.sink.now c.put_number_words.new.sink c.args.text.now c.put_number_words.new.text t)
-    (ap (λ (x : ℕ). text x c.saturating_sub-spare.result) (c.place.ensures.value)
+    (ap (λ (x : ℕ). text x c.saturating_sub-spare.result) (c.place-right.ensures.value)
     ∙ ap (λ (x : ℕ). text (place c.args.scale.now c.args.ti) x) (c.saturating_sub-spare.ensures))
     (c.put_number_words.ensures)
