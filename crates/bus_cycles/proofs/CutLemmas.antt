@@ -1,6 +1,6 @@
 -- Rows that are cut are drawn open, and whole ones have all of their cycle.
 use Rattle.std.proofs.Common.{◌≡◌, ◌≢◌, ◌↔◌, ℕ, ◌+◌, ◌-◌, ◌*◌, ◌/◌, ◌<◌, ◌≤◌, Bool, true, false, cond, ltb, leb, max, fold, List, [], ◌∷◌, ◌++◌, length, inl, inr, arith, sym, refl, ap, subst, ◌∙◌}
-use Rattle.std.specs.Prelude.{codes, not, ◌&&◌}
+use Rattle.std.specs.Prelude.{codes, decimal, not, ◌&&◌}
 use Rattle.std.specs.List.{AllByRecursion}
 use Rattle.std.proofs.lemmas.Bool.{and_parts, leb-true, ltb-true, ltb-false, not-false, true≢false}
 use Rattle.bus_strings.specs.Members.{In}
@@ -11,7 +11,8 @@ use Rattle.bus_table.proofs.ValidLaws.{valid_facts}
 use Rattle.bus_shapes.specs.declared.area.Area.{Area}
 use Rattle.bus_shapes.specs.declared.class.Class.{Class}
 use Rattle.bus_shapes.specs.declared.class.Class.TheVariants.{Unobserved}
-use Rattle.bus_shapes.specs.Shapes.{titled_text}
+use Rattle.bus_shapes.specs.Classes.{class_name}
+use Rattle.bus_shapes.specs.Shapes.{titled_end, titled_text}
 use Rattle.bus_shapes.specs.Laws.{PlacesLieWithin, PlacesRise}
 use Rattle.bus_shapes.specs.Scales.{IsScale, place}
 use Rattle.bus_shapes.specs.declared.sent.Sent.{Sent}
@@ -30,12 +31,15 @@ drawn_where true text some = (λ h. refl, λ h. some)
 drawn_where false text some = (λ h. absurd (h refl), λ h. absurd cc)
 
 -- a text whose front is some
-some_text : (a b c d : List ℕ) → 0 < length a → ((a ++ b) ++ c) ++ d ≢ []
-some_text [] b c d h = absurd (omega arith)
-some_text (x ∷ xs) b c d h = λ e. absurd cc
+front_some : (a b c d e f g h i j k l m n : List ℕ) → 0 < length a → a ++ b ++ c ++ d ++ e ++ f ++ g ++ h ++ i ++ j ++ k ++ l ++ m ++ n ≢ []
+front_some [] b c d e f g h i j k l m n some = absurd (omega arith)
+front_some (x ∷ xs) b c d e f g h i j k l m n some = λ q. absurd cc
 
 box_is_some : (class : Class) (area : Area) (words : List ℕ) → titled_text class area words ≢ []
-box_is_some class area words = some_text (codes "<rect class=\"") _ _ _ (omega arith)
+box_is_some class area words =
+    front_some (codes "<rect class=\"") (class_name class) (codes "\" x=\"") (decimal area.left) (codes "\" y=\"") (decimal area.top)
+    (codes "\" width=\"") (decimal area.width) (codes "\" height=\"") (decimal area.height) (codes "\"") (codes "><title>") words titled_end
+    (omega arith)
 
 pub open_where_cut : CutAreOpen
 open_where_cut page row = (

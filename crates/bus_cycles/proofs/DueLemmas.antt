@@ -54,7 +54,7 @@ last_same [] (b ∷ []) x y e = absurd cc
 last_same [] (b ∷ (c ∷ cs)) x y e = absurd cc
 last_same (a ∷ []) [] x y e = absurd cc
 last_same (a ∷ (c ∷ cs)) [] x y e = absurd cc
-last_same (a ∷ as) (b ∷ bs) x y e = let rest : as ++ x ∷ [] ≡ bs ++ y ∷ [] = cc in last_same as bs x y rest
+last_same (a ∷ us) (b ∷ vs) x y e = let rest : us ++ x ∷ [] ≡ vs ++ y ∷ [] = cc in last_same us vs x y rest
 
 named_at : (cycle : Cycle) (place : ℕ) (sent : Sent) → IsNamed (row_at cycle place sent)
 named_at cycle place sent = record {

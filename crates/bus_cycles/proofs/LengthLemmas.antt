@@ -116,7 +116,7 @@ taken cycle seen all row whole least most i w h =
           | inr now ↦ is_length cycle seen all row (max most long) i w now
         ];
       }
-      | inr no ↦
+      | inr few ↦
           let zero : whole ≡ 0 = omega arith in
           let test : eqb whole 0 ≡ true = eq-eqb whole 0 zero in
           let low_is : low ≡ long = ap (λ b. cond b long (min least long)) test in

@@ -66,8 +66,14 @@ garbled_hatched : (width : ℕ) → is_hatched (garbled_class width) ≡ true
 garbled_hatched width =
     elim (ltb width 60) as (λ b. is_hatched (cond b GarbledNarrow Garbled) ≡ true) [ true ↦ refl | false ↦ refl ]
 
+slot_class : (width slot : ℕ) → class_of width (2 + slot) ≡ garbled_class width
+slot_class width slot =
+    let none : eqb (2 + slot) 0 ≡ false = ne_eqb (2 + slot) 0 (λ e. omega arith) in
+    let other : eqb (2 + slot) 1 ≡ false = ne_eqb (2 + slot) 1 (λ e. omega arith) in
+    ap (λ b. cond b Other (cond (eqb (2 + slot) 1) Wordstring (garbled_class width))) none ∙ ap (λ b. cond b Wordstring (garbled_class width)) other
+
 hatched_at : (width : ℕ) (garbled : Bool) (slot lane : ℕ) → lane < 2 → is_hatched (class_of width (cond garbled (2 + slot) lane)) ≡ garbled
-hatched_at width true slot lane low = garbled_hatched width
+hatched_at width true slot lane low = ap is_hatched (slot_class width slot) ∙ garbled_hatched width
 hatched_at width false slot zero low = refl
 hatched_at width false slot (suc zero) low = refl
 hatched_at width false slot (suc (suc lane)) low = absurd (omega arith)

@@ -9,7 +9,8 @@ use bus_command::{About, tell};
 use bus_outer::Sink;
 
 /// The help, which `docs/bus629.help` has too.
-pub const HELP: &[u8] = b"bus629 checks tables for buses after ARINC 629 (Basic Protocol), runs and observes such buses, tells
+pub const HELP: &[u8] =
+    b"bus629 checks tables for buses after ARINC 629 (Basic Protocol), runs and observes such buses, tells
 what each terminal receives, and audits recorded traces. What it says is proved.
 
   bus629 check T          judge the table in the file T
