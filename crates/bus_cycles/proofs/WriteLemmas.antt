@@ -2,6 +2,7 @@
 use Rattle.std.proofs.Common.{◌≡◌, ℕ, List, ◌++◌, Option, ap, ◌∙◌}
 use Rattle.bus_regime.specs.declared.table_verdict.TableVerdict.{TableVerdict}
 use Rattle.bus_table.specs.Tables.{Table}
+use Rattle.bus_strings.specs.Messages.{Entry}
 use Rattle.bus_trace.specs.Traces.{Recording}
 use Rattle.bus_shapes.specs.declared.counts.Counts.{Counts}
 use Rattle.bus_shapes.specs.Frames.{frame_text, tail_text}
@@ -18,21 +19,22 @@ use Rattle.bus_cycles.specs.RowTexts.{rows_text}
 use Rattle.bus_cycles.specs.Sents.{shown}
 use Rattle.bus_cycles.specs.Surveys.{Survey, breach_in, counts, survey_of}
 
-abbrev pub text_with : Window → TableVerdict → Told → Table → Recording → ℕ → Counts → Survey → Page → Option ℕ → List ℕ
-text_with window verdict told table trace height numbers survey page breach =
-    frame_text height verdict told table trace.list numbers
+abbrev pub text_with : Window → TableVerdict → Told → Table → Recording → List Entry → ℕ → Counts → Survey → Page → Option ℕ → List ℕ
+text_with window verdict told table trace entries height numbers survey page breach =
+    frame_text height verdict told table entries numbers
     ++ above_text page survey numbers told ++ dues_text page table ++ rows_text page (rows_of page.cycle (shown window trace.list))
     ++ loads_text page trace.list (rows_of page.cycle (shown window trace.list)) ++ marks_text page table verdict ++ below_text page
     ++ breach_text page breach survey.marked ++ faults_text page told (rows_of page.cycle (shown window trace.list)) ++ tail_text
 
-pub whole_put : (window : Window) (verdict : TableVerdict) (told : Told) (table : Table) (trace : Recording) (height : ℕ) (numbers : Counts)
-    (survey : Survey) (page : Page) (cycle : Cycle) (limits : Seen) (breach : Option ℕ) → height ≡ height_of page → numbers ≡ counts window trace
+pub whole_put : (window : Window) (verdict : TableVerdict) (told : Told) (table : Table) (trace : Recording) (entries : List Entry) (height : ℕ)
+    (numbers : Counts)
+    (survey : Survey) (page : Page) (cycle : Cycle) (limits : Seen) (breach : Option ℕ) → entries ≡ trace.list → height ≡ height_of page → numbers ≡ counts window trace
     → cycle ≡ cycle_of table → limits ≡ seen_of numbers → breach ≡ breach_in window told
     → survey ≡ survey_of cycle limits breach (shown window trace.list) → page ≡ page_of table survey numbers
-    → text_with window verdict told table trace height numbers survey page breach ≡ cycles_text window verdict told table trace
+    → text_with window verdict told table trace entries height numbers survey page breach ≡ cycles_text window verdict told table trace
 unfolding cycles_text
-whole_put window verdict told table trace height numbers survey page cycle limits breach b t c l f s p =
-    let text = text_with window verdict told table trace in
+whole_put window verdict told table trace entries height numbers survey page cycle limits breach e b t c l f s p =
+    let text = text_with window verdict told table trace trace.list in
     let list = shown window trace.list in
     let found = breach_in window told in
     let seen = counts window trace in
@@ -42,7 +44,8 @@ whole_put window verdict told table trace height numbers survey page cycle limit
     s ∙ ap (λ (y : Cycle). survey_of y limits breach list) c ∙ ap (λ (y : Seen). survey_of (cycle_of table) y breach list) limits_are
     ∙ ap (λ (m : Option ℕ). survey_of (cycle_of table) (seen_of seen) m list) f in
     let page_is : page ≡ page_of table own seen = p ∙ ap (λ (y : Survey). page_of table y numbers) is ∙ ap (λ (n : Counts). page_of table own n) t in
-    ap (λ (n : ℕ). text n numbers survey page breach) b
+    ap (λ (es : List Entry). text_with window verdict told table trace es height numbers survey page breach) e
+    ∙ ap (λ (n : ℕ). text n numbers survey page breach) b
     ∙ ap (λ (n : Counts). text (height_of page) n survey page breach) t
     ∙ ap (λ (n : Page). text (height_of n) seen survey n breach) page_is
     ∙ ap (λ (n : Option ℕ). text (height_of (page_of table own seen)) seen survey (page_of table own seen) n) f

@@ -46,17 +46,9 @@ pub fn write_cycles<K: Sink>(
     let survey = take_survey(&cycle, seen_of(&counts), breach, window, trace);
     let page = Page::new(table, &survey, &counts);
     let height = height_of(&page);
+    let list = trace.list();
     let mut text = TextBuffer::new();
-    put_frame(
-        &mut text,
-        sink,
-        height,
-        verdict,
-        told,
-        table,
-        trace.list(),
-        &counts,
-    );
+    put_frame(&mut text, sink, height, verdict, told, table, list, &counts);
     put_above(&mut text, sink, &page, &survey, &counts, told);
     put_dues(&mut text, sink, &page, table);
     put_rows(&mut text, sink, &page, window, trace);

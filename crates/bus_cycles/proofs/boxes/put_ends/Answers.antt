@@ -11,4 +11,4 @@ returns g c =
     let row = c.args.row in
     subst (λ (t : List ℕ). Adds g.K.Sink.held g.K.Sink.faults c.args.sink.now c.end_words.new.sink c.args.text.now c.end_words.new.text t)
     (ap (λ (n : ℕ). words_text Small 8650 n (decimal row.first ++ codes "-" ++ decimal row.last)) c.line_of.ensures)
-    (c.begin_words.ensures ▸ c.put_number.ensures ▸ c.put_byte.ensures ▸ c.put_number-2.ensures ▸ c.end_words.ensures)
+    (c.begin_words.ensures ▸ (c.put_number.ensures ▸ c.put_byte.ensures ▸ c.put_number-2.ensures) ▸ c.end_words.ensures)

@@ -1,4 +1,4 @@
-use Rattle.std.proofs.Common.{◌<◌, ◌+◌, ◌-◌, ◌^◌, ◌∷◌, length}
+use Rattle.std.proofs.Common.{◌<◌, ◌≤◌, ◌+◌, ◌-◌, ◌^◌, ◌∷◌, length}
 use Rattle.std.specs.List.{AllByRecursion}
 use Rattle.bus_cycles.specs.inside.Bounds.{IsSent}
 use Rattle.bus_cycles.specs.inside.Surveying.{Surveys}
