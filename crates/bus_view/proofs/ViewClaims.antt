@@ -1,9 +1,10 @@
 -- What is claimed of the views.
-use Rattle.std.specs.Prelude.{◌≡◌, ℕ, ◌&&◌, List, [], ◌∷◌, codes, Option, Some, None, IfSome, Ok}
+use Rattle.std.specs.Prelude.{◌≡◌, ℕ, Bool, false, ◌&&◌, List, [], ◌∷◌, codes, Option, Some, None, IfSome, Ok}
 use Rattle.std.proofs.Common.{cond, refl, sym, ap, ◌∙◌, subst}
 use Rattle.bus_table.specs.Tables.{Table}
 use Rattle.bus_trace.specs.TraceLaws.{ReadsBack}
 use Rattle.bus_trace.specs.Traces.{Recording}
+use Rattle.std.specs.Str.{bytes_eq}
 use Rattle.std.specs.Option.{option_and_then}
 use Rattle.bus_bounds.specs.Bounds.{Bounds, most_delay, most_jitter, most_clocks}
 use Rattle.bus_text.specs.Numbers.{decimal_value}
@@ -79,9 +80,23 @@ view_asked (Painted Cycles window) first second further w s = window_asked (code
 view_asked (Judged TimeLine bounds window) first second further w s = bounds_asked (codes "svg") bounds window first second further s.0 w s.1
 view_asked (Judged Cycles bounds window) first second further w s = bounds_asked (codes "cycles") bounds window first second further s.0 w s.1
 
+-- no view is asked for by the word of a page
+not_page : (view : View) → bytes_eq (view_word view) (codes "page") ≡ false
+not_page (Dump Vcd window) = refl
+not_page (Dump Wires window) = refl
+not_page (Dump Timers window) = refl
+not_page SaveFile = refl
+not_page (Painted TimeLine window) = refl
+not_page (Painted Cycles window) = refl
+not_page (Judged TimeLine bounds window) = refl
+not_page (Judged Cycles bounds window) = refl
+
 -- the words of a view ask for it
 asked : (view : View) (words : List (List ℕ)) (first second : List ℕ) (further : List (List ℕ)) → words ≡ view_word view ∷ first ∷ second ∷ further → AreFurther view further → IsSound view → form_of words ≡ Some (OnTrace view)
-asked view words first second further h w s = ap form_of h ∙ ap on_trace (view_asked view first second further w s)
+asked view words first second further h w s =
+    let these : List (List ℕ) = view_word view ∷ first ∷ second ∷ further in
+    ap form_of h ∙ ap (λ (b : Bool). cond b (page_of these) (on_trace (view_of these))) (not_page view)
+    ∙ ap on_trace (view_asked view first second further w s)
 
 -- the laws of the crates below, by which it follows
 pub record DrawLaws : Type 0 where
