@@ -10,7 +10,7 @@ fn has_in_order(rt: &impl Abort, page: &[u8], parts: &[&str]) {
     for part in parts {
         let at = position(rest, *part);
         assert!(rt; at.is_some(), "{part}");
-        rest = &rest[at.unwrap_or(0)..];
+        rest = rest.get(at.unwrap_or(0)..).unwrap_or(&[]);
     }
 }
 
