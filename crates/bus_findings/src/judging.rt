@@ -132,7 +132,8 @@ fn of_sender(
     requires reached { (y : Entry) → slice_get list.now i ≡ Some y → HasReached bounds list.now y.moment heard }
     requires watch { IsWatch bounds table.now list.now sender.now.number i watch }
     ensures { (x : Entry) → slice_get list.now i ≡ Some x → x.terminal ≡ sender.now.number
-        → result ≡ judged.of_sender bounds table.now list.now sender.now x (judged.last_start (recorded bounds list.now) x.terminal x.moment) }
+        → result ≡ judged.of_sender bounds table.now list.now sender.now x
+        (judged.last_start (recorded bounds list.now) x.terminal x.moment) }
 {
     let first = of_first(bounds, table, sender, watch, heard, list, i);
     match watch.last {

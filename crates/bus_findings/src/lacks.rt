@@ -100,7 +100,8 @@ pub(crate) fn gap_lack(
     requires heard { (y : Entry) → slice_get list.now i ≡ Some y → HasReached bounds list.now y.moment heard }
     requires watch { IsWatch bounds table.now list.now sender.now.number i watch }
     ensures { (y : Entry) → slice_get list.now i ≡ Some y → y.terminal ≡ sender.now.number
-        → result ≡ lacks.gap_lack (timers_of bounds table.now sender.now) (monitor_of bounds table.now) (recorded bounds list.now) (seen bounds y) }
+        → result ≡ lacks.gap_lack (timers_of bounds table.now sender.now) (monitor_of bounds table.now) (recorded bounds list.now)
+        (seen bounds y) }
 {
     let x = &list[i];
     lack_behind(

@@ -37,7 +37,8 @@ pub(crate) fn due_behind(
     requires last { IsLastAt bounds list.now sender.now.number last }
     requires stretch { IsStretch list.now sender.now.number last.place to start }
     ensures { (o : Entry) → slice_get list.now last.place ≡ Some o
-        → result ≡ due_of (timers_of bounds table.now sender.now) (monitor_of bounds table.now) (recorded bounds list.now) (seen bounds o) start }
+        → result ≡ due_of (timers_of bounds table.now sender.now) (monitor_of bounds table.now) (recorded bounds list.now)
+        (seen bounds o) start }
 {
     walks_find();
     let o = &list[last.place];
@@ -89,7 +90,8 @@ fn is_plain(
     requires last { IsLastTo bounds list.now sender.now.number i last }
     requires here { i < length list.now }
     ensures { (o y : Entry) → slice_get list.now last.place ≡ Some o → slice_get list.now i ≡ Some y → IsTrue result
-        → due_of (timers_of bounds table.now sender.now) (monitor_of bounds table.now) (recorded bounds list.now) (seen bounds o) y.moment ≡ None }
+        → due_of (timers_of bounds table.now sender.now) (monitor_of bounds table.now) (recorded bounds list.now)
+        (seen bounds o) y.moment ≡ None }
 {
     walks_find();
     let _some = (ti_of(table), sg_of(table), tg_of(sender));

@@ -20,6 +20,7 @@ pub mod laws;
 mod lengths;
 mod lines;
 mod listing;
+mod numbers;
 mod quiet;
 mod rooms;
 mod silences;

@@ -51,8 +51,8 @@ impl Quiet {
         }
     }
 
-    /// With the transmission at place `i`, which begins at a moment; those before it have ended at `soonest` at the soonest, and at `end` or
-    /// later at the latest.
+    /// With the transmission at place `i`, which begins at a moment; those before it have ended at `soonest` at the soonest, and at
+    /// `end` or later at the latest.
     pub(crate) fn with(self, soonest: u64, end: u64, i: usize, moment: u64) -> Quiet
         requires end { end < 2 ^ 42 }
         requires soonest { soonest < 2 ^ 41 }
@@ -89,15 +89,16 @@ impl Quiet {
         requires within { self.place < length list.now }
         requires gap { gap ≤ 2 ^ 18 }
         requires from { self.from < 2 ^ 41 }
-        ensures { (x : Entry) → slice_get list.now self.place ≡ Some x → result ≡ calm.has_room (reach_of bounds) self place gap until x.moment }
+        ensures { (x : Entry) → slice_get list.now self.place ≡ Some x
+            → result ≡ calm.has_room (reach_of bounds) self place gap until x.moment }
     {
         let x = &list[self.place];
         place < self.place && self.from + gap <= (x.moment + reach(bounds)).min(until)
     }
 
-    /// Whether it is plain that a terminal wasn't due before a start: its interval wasn't over, or behind its last start, at a place, this is
-    /// the only long stretch, with no room for both gaps once the interval was over, and none behind it has room for its terminal gap. All
-    /// before the start have ended at `end` or later.
+    /// Whether it is plain that a terminal wasn't due before a start: its interval wasn't over, or behind its last start, at a place,
+    /// this is the only long stretch, with no room for both gaps once the interval was over, and none behind it has room for its
+    /// terminal gap. All before the start have ended at `end` or later.
     pub(crate) fn rules_out(
         self,
         list: &[Transmission],

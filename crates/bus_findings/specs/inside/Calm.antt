@@ -35,8 +35,9 @@ pub record IsQuiet (bounds : Bounds) (list : List Entry) (i : ℕ) (quiet : Quie
 abbrev pub has_room : ℕ → Quiet → ℕ → ℕ → ℕ → ℕ → Bool
 has_room reach quiet place gap until m = nat_lt place quiet.place && nat_le (quiet.from + gap) (min (m + reach) until)
 
--- Whether a terminal's timers can't have been over before a start, where its last one stands at a place: its interval wasn't, or this is the only
--- long stretch behind it, with no room for both gaps once the interval was over, and none behind that has room for the terminal gap.
+-- Whether a terminal's timers can't have been over before a start, where its last one stands at a place: its interval wasn't, or this
+-- is the only long stretch behind it, with no room for both gaps once the interval was over, and none behind that has room for the
+-- terminal gap.
 abbrev pub rules_out : Quiet → ℕ → Over → ℕ → ℕ → ℕ → Bool
 rules_out quiet place over end start m =
     nat_le start over.interval
