@@ -37,7 +37,7 @@ others_more recording r number apart =
 of_own : (ends : Ends) (number : ℕ) → number ≡ ends.terminal → of_others ends number ≡ ends.second
 of_own ends number own = ap (λ b. let v : ℕ = cond b ends.second ends.first in v) (eq-eqb number ends.terminal own)
 
-of_other : (ends : Ends) (number : ℕ) → number ≢ ends.terminal → of_others ends number ≡ ends.first
+pub of_other : (ends : Ends) (number : ℕ) → number ≢ ends.terminal → of_others ends number ≡ ends.first
 of_other ends number apart = ap (λ b. let v : ℕ = cond b ends.second ends.first in v) (ne_eqb number ends.terminal apart)
 
 -- of the terminal whose end is the greatest

@@ -5,6 +5,8 @@ pub mod LackLemmas
 pub mod DueLemmas
 pub mod PlaceLemmas
 pub mod WalkLemmas
+pub mod PlainLemmas
+pub mod QuietLemmas
 pub mod JudgeLemmas
 pub mod HeardLemmas
 pub mod WatchLemmas

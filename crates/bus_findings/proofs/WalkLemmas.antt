@@ -69,7 +69,7 @@ from_it list i y z up at inside =
       | inr later ↦ moments_ascend y z (behind_it list i y z up at later)
     ]
 
-in_front : (list : List Entry) (place to : ℕ) (o z : Entry) → slice_get list place ≡ Some o → place < to → In z (slice_range list (place + 1) to)
+pub in_front : (list : List Entry) (place to : ℕ) (o z : Entry) → slice_get list place ≡ Some o → place < to → In z (slice_range list (place + 1) to)
     → In z (take to list)
 in_front list place to o z there less inside =
     subst (λ l. In z l) (sym (take_split list place to o there less))

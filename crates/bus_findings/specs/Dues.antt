@@ -26,8 +26,8 @@ abbrev pub first_elapsed : Bounds → Monitor → List Seen → Seen → ℕ →
 first_elapsed timers monitor recording o until =
     first_below (λ e. nat_le timers.long.sg e && is_quiet monitor recording o (e - timers.long.sg) e) until
 
--- The first moment at which all three timers are over for certain, where the synchronization gap elapsed at moment e: the interval has passed,
--- and the terminal gap behind e.
+-- The first moment at which all three timers are over for certain, where the synchronization gap elapsed at moment e: the interval has
+-- passed, and the terminal gap behind e.
 abbrev pub first_due : Bounds → Monitor → List Seen → Seen → ℕ → ℕ → Option ℕ
 first_due timers monitor recording o until e =
     first_below (λ t. nat_le (o.moment + timers.long.ti) t && (nat_le (e + timers.long.tg) t
@@ -42,5 +42,6 @@ last_over timers o e t =
 -- When the terminal was due for certain first, and by which timer.
 abbrev pub due_of : Bounds → Monitor → List Seen → Seen → ℕ → Option Due
 due_of timers monitor recording o until =
-    option_and_then (λ e. option_map (λ t. record { moment = t; timer = last_over timers o e t }) (first_due timers monitor recording o until e))
+    option_and_then
+    (λ e. option_map (λ t. record { moment = t; timer = last_over timers o e t }) (first_due timers monitor recording o until e))
     (first_elapsed timers monitor recording o until)

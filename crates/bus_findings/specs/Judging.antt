@@ -61,7 +61,8 @@ abbrev pub of_sender : Bounds → Table → List Entry → Sender → Entry → 
 of_sender bounds table list sender x last = record {
   stranger = false;
   interval = option_map_or (λ o. interval_lack (timers_of bounds table sender) o (seen bounds x)) last 0;
-  sync_gap = option_map_or (λ o. sync_lack (timers_of bounds table sender) (monitor_of bounds table) (recorded bounds list) o (seen bounds x)) last 0;
+  sync_gap = option_map_or
+      (λ o. sync_lack (timers_of bounds table sender) (monitor_of bounds table) (recorded bounds list) o (seen bounds x)) last 0;
   terminal_gap = gap_lack (timers_of bounds table sender) (monitor_of bounds table) (recorded bounds list) (seen bounds x);
   late = option_map_or (λ o. option_map (late_by (recorded bounds list) (seen bounds x))
       (due_of (timers_of bounds table sender) (monitor_of bounds table) (recorded bounds list) o x.moment)) last None;

@@ -25,7 +25,8 @@ gap_lack timers monitor recording y =
 -- Whether terminal k has heard another's transmission for certain from moment a to moment b: it had heard it begin before b, and can't have
 -- heard it end at a or before.
 abbrev pub is_met : Monitor → List Seen → ℕ → ℕ → ℕ → Bool
-is_met monitor recording k a b = list_any (λ r. not (r.sender == k) && (nat_lt (r.moment + monitor.reach) b && nat_lt a r.soonest)) recording
+is_met monitor recording k a b =
+    list_any (λ r. not (r.sender == k) && (nat_lt (r.moment + monitor.reach) b && nat_lt a r.soonest)) recording
 
 -- Whether it may have heard quiet for so many bit times behind its own last message, with room for its terminal gap before the start: some
 -- stretch of this length there in which nobody was heard for certain.

@@ -1,5 +1,5 @@
--- What the findings are in the words of bus_recording. Its own laws say what follows: whoever keeps its bounds has none of these findings, and
--- the amounts are true.
+-- What the findings are in the words of bus_recording. Its own laws say what follows: whoever keeps its bounds has none of these
+-- findings, and the amounts are true.
 use Rattle.std.specs.Prelude.{◌≡◌, ℕ, ◌+◌, ◌-◌, ◌<◌, ◌≤◌, true, false, List, Option, Some, None}
 use Rattle.std.specs.Option.{option_map_or}
 use Rattle.bus_recording.specs.Seen.{Seen, IsIn, Monitor, Bounds as TimerBounds}
@@ -111,9 +111,9 @@ pub record IsOfSender (table : Table) (trace : Recording) (sender : Sender) (x :
   pub there : In x trace.list
   pub sender_is : sender_of table.senders x.terminal ≡ Some sender
 
--- A sender keeps bounds, whatever the others do, and hears the recorded transmissions as the monitor recorded them: with its clock set ahead,
--- its own starts are those of the recording, up to the sway, and it hears each other transmission no earlier than it is recorded, and up to
--- twice the delay later.
+-- A sender keeps bounds, whatever the others do, and hears the recorded transmissions as the monitor recorded them: with its clock set
+-- ahead, its own starts are those of the recording, up to the sway, and it hears each other transmission no earlier than it is
+-- recorded, and up to twice the delay later.
 pub record Keeps (bounds : Bounds) (table : Table) (trace : Recording) (sender : Sender) : Type 0 where
   pub course : Course
   pub from : ℕ

@@ -1,5 +1,6 @@
--- What the amounts that are told mean on the bus that was recorded, where the trace is the file of a monitor: in ticks of that bus, which may
--- be as fine as you like. Rounding down takes less than a bit time from an amount, and less than two from that of a synchronization gap.
+-- What the amounts that are told mean on the bus that was recorded, where the trace is the file of a monitor: in ticks of that bus,
+-- which may be as fine as you like. Rounding down takes less than a bit time from an amount, and less than two from that of a
+-- synchronization gap.
 use Rattle.std.specs.Prelude.{◌≡◌, ◌<◌, Some}
 use Rattle.bus_strings.specs.Messages.{Entry}
 use Rattle.bus_table.specs.Tables.{Sender, Table}
@@ -22,7 +23,8 @@ abbrev pub StandsThere : (bounds : Bounds) (table : Table) (trace : Recording) (
 StandsThere bounds table trace sender s y z = StandsAs s.course.list s.terminal s.start s.noted s.name y z
 
 -- The sender's starts on the bus are a bit time apart, or more.
-abbrev pub StartsSingly : (bounds : Bounds) (table : Table) (trace : Recording) (sender : Sender) → StandsInFile bounds table trace sender → Type 0
+abbrev pub StartsSingly : (bounds : Bounds) (table : Table) (trace : Recording) (sender : Sender)
+    → StandsInFile bounds table trace sender → Type 0
 StartsSingly bounds table trace sender s = StartsApart s.bit s.terminal s.course.list
 
 -- What is told of a start means this of two transmissions of the sender on the bus, the next behind each other:
@@ -42,8 +44,8 @@ pub record AreMeantOf (bounds : Bounds) (table : Table) (trace : Recording) (sen
       → WasDue s.course s.terminal s.bit (timers_of bounds table sender).long late.amount before start
 
 -- So it is of the transmissions that stand as a start x and as the one before it, o.
-abbrev pub IsMeantOf : (bounds : Bounds) (table : Table) (trace : Recording) (sender : Sender) → StandsInFile bounds table trace sender → Entry
-    → Seen → Type 0
+abbrev pub IsMeantOf : (bounds : Bounds) (table : Table) (trace : Recording) (sender : Sender)
+    → StandsInFile bounds table trace sender → Entry → Seen → Type 0
 IsMeantOf bounds table trace sender s x o =
     (before : Transmission) × (start : Transmission) × StandsThere bounds table trace sender s o before
     × StandsThere bounds table trace sender s (seen bounds x) start
@@ -52,8 +54,8 @@ IsMeantOf bounds table trace sender s x o =
 -- So it is of each start behind another of its sender.
 abbrev pub FileAmountsAreMeant : Type 0
 FileAmountsAreMeant =
-    (bounds : Bounds) (table : Table) (trace : Recording) (sender : Sender) (s : StandsInFile bounds table trace sender) (x : Entry) (o : Seen)
-    → IsTrace trace → StartsSingly bounds table trace sender s → IsOfSender table trace sender x
+    (bounds : Bounds) (table : Table) (trace : Recording) (sender : Sender) (s : StandsInFile bounds table trace sender)
+    (x : Entry) (o : Seen) → IsTrace trace → StartsSingly bounds table trace sender s → IsOfSender table trace sender x
     → last_start (recorded bounds trace.list) x.terminal x.moment ≡ Some o → IsMeantOf bounds table trace sender s x o
 
 -- The amount of its terminal gap that is told of a start means so of the transmission that stands there.
@@ -61,7 +63,8 @@ abbrev pub GapIsMeantOf : (bounds : Bounds) (table : Table) (trace : Recording) 
     → Entry → Type 0
 GapIsMeantOf bounds table trace sender s x =
     (start : Transmission) × StandsThere bounds table trace sender s (seen bounds x) start
-    × LacksGap s.course s.terminal s.drop s.bit (timers_of bounds table sender).short (judgement_of bounds table trace.list x).terminal_gap start
+    × LacksGap s.course s.terminal s.drop s.bit (timers_of bounds table sender).short
+    (judgement_of bounds table trace.list x).terminal_gap start
 
 -- So it is of each start, be it the first of its sender.
 abbrev pub FileGapIsMeant : Type 0

@@ -1,5 +1,5 @@
--- A trace and a table in the words of bus_recording: what a monitor recorded of a bus within bounds. Here the bounds are in bit times: D, the
--- greatest delay between the monitor and a terminal, and J and P, by how much lengths are off.
+-- A trace and a table in the words of bus_recording: what a monitor recorded of a bus within bounds. Here the bounds are in bit times:
+-- D, the greatest delay between the monitor and a terminal, and J and P, by how much lengths are off.
 use Rattle.std.specs.Prelude.{ℕ, ◌+◌, ◌-◌, ◌*◌, max, List, map, fold}
 use Rattle.bus_strings.specs.Limits.{inner_gap}
 use Rattle.bus_strings.specs.Messages.{Entry, bits}

@@ -112,7 +112,8 @@ entry_lines bounds table list x = judgement_lines x.moment x.terminal (judgement
 -- A sender that was due has been silent up to the horizon.
 abbrev pub silent_line : ℕ → ℕ → Due → List ℕ
 silent_line horizon terminal due =
-    place_words (codes "NOTE") due.moment terminal ++ codes "Silent " ++ timer_word due.timer ++ 32 ∷ [] ++ decimal (horizon - due.moment) ++ 10 ∷ []
+    place_words (codes "NOTE") due.moment terminal
+    ++ codes "Silent " ++ timer_word due.timer ++ 32 ∷ [] ++ decimal (horizon - due.moment) ++ 10 ∷ []
 
 abbrev pub silence_lines : ℕ → ℕ → Option Due → List ℕ
 silence_lines horizon terminal due = option_map_or (silent_line horizon terminal) due []

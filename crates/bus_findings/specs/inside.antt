@@ -1,4 +1,5 @@
 -- Words of private contracts and of proofs.
+pub mod Calm
 pub mod Standing
 pub mod Counting
 pub mod Walked

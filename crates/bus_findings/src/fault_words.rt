@@ -30,7 +30,8 @@ fn put_where<K: Sink>(text: &mut TextBuffer, sink: &mut K, so: bool, words: &[u8
 
 /// Puts a blank and that a start is too early by a timer, where it is.
 fn put_early<K: Sink>(text: &mut TextBuffer, sink: &mut K, timer: Timer, amount: u64)
-    ensures { Adds K.held K.faults sink.old sink.new text.old text.new (texts.where_so (nat_lt 0 amount) (32 ∷ texts.early_words timer amount)) }
+    ensures { Adds K.held K.faults sink.old sink.new text.old text.new
+        (texts.where_so (nat_lt 0 amount) (32 ∷ texts.early_words timer amount)) }
 {
     if amount > 0 {
         text.put_byte(sink, b' ');

@@ -7,6 +7,7 @@ ghost use Rattle.bus_findings.specs.inside.Standing as standing;
 ghost use Rattle.bus_findings.specs.inside.Standing.{AreEnds, IsHeard, HasBegun, HasReached};
 
 use crate::lengths::{latest, reach, soonest};
+use crate::quiet::Quiet;
 use bus_bounds::Bounds;
 use bus_strings::Transmission;
 
@@ -83,11 +84,14 @@ pub struct Heard {
     pub begun: usize,
     /// The greatest moment at which one of these ends at the soonest, or 0.
     pub begun_end: u64,
+    /// The last long stretch in which nobody was heard.
+    pub quiet: Quiet,
 }
 
 impl Heard {
-    /// Nothing was seen.
-    pub(crate) fn nothing(bounds: Bounds, list: &[Transmission]) -> Heard
+    /// Nothing was seen. A stretch is long from so many bit times on.
+    pub(crate) fn nothing(bounds: Bounds, long: u64, list: &[Transmission]) -> Heard
+        requires { long ≤ 2 ^ 18 }
         ensures heard { IsHeard bounds list.now 0 result }
         ensures begun { (moment : ℕ) → HasBegun bounds list.now moment result }
     {
@@ -97,6 +101,7 @@ impl Heard {
             latest: 0,
             begun: 0,
             begun_end: 0,
+            quiet: Quiet::none(long),
         }
     }
 
@@ -133,10 +138,13 @@ impl Heard {
         ensures begun { (moment : ℕ) → HasBegun bounds list.now moment self → HasBegun bounds list.now moment result }
     {
         let x = &list[i];
+        let reach = reach(bounds);
+        let end = self.latest.saturating_sub(reach);
         Heard {
             end: self.end.max(x.end()),
             soonest: self.soonest.with(x.terminal, soonest(bounds, x)),
-            latest: self.latest.max(latest(bounds, x) + reach(bounds)),
+            latest: self.latest.max(latest(bounds, x) + reach),
+            quiet: self.quiet.with(self.soonest.first, end, i, x.moment),
             ..self
         }
     }

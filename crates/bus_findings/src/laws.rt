@@ -46,8 +46,8 @@ pub fn files_are_unblamed()
     recordings_count_from_anywhere();
 }
 
-/// What is told of a start in such a file, whether its sender keeps its bounds or not, means as much of the bus that was recorded, in ticks,
-/// but for less than a bit time, or two: by how much its timers were too short, and how long it had been due.
+/// What is told of a start in such a file, whether its sender keeps its bounds or not, means as much of the bus that was recorded, in
+/// ticks, but for less than a bit time, or two: by how much its timers were too short, and how long it had been due.
 pub fn amounts_are_meant()
     ensures next { FileAmountsAreMeant }
     ensures gap { FileGapIsMeant }

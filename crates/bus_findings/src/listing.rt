@@ -9,6 +9,7 @@ ghost use Rattle.bus_findings.specs.inside.Standing.{AreWatched};
 use crate::heard::Heard;
 use crate::judgement::Judgement;
 use crate::judging::judge;
+use crate::lacks::shortest_sync;
 use crate::lengths::settled;
 use crate::totals::fault_count;
 use crate::watch::Watch;
@@ -34,7 +35,7 @@ fn judge_all(
     ensures { IfOk result (λ all. all.items ≡ judged.judgements bounds table.now list.now) }
 {
     let settled = settled(bounds, table);
-    let mut heard = Heard::nothing(bounds, list);
+    let mut heard = Heard::nothing(bounds, shortest_sync(bounds, table), list);
     let mut all = Vec::with_capacity(alloc, list.len())?;
     for i in 0..list.len() {
         let x = &list[i];
@@ -47,7 +48,7 @@ fn judge_all(
 }
 
 /// What is found at each transmission of a recording of a bus of this table, in order. The bounds are in bit times. It goes over the
-/// recording once, in time that goes with the transmissions times the senders. The error is that the memory of the list was refused.
+/// recording once, as [`write_findings`](crate::write_findings) does. The error is that the memory of the list was refused.
 pub fn judgements(
     alloc: Global,
     table: &Table,

@@ -6,7 +6,7 @@ ghost use Rattle.bus_findings.specs.Silences.{silence_of};
 ghost use Rattle.bus_findings.specs.inside.Standing.{IsWatch};
 
 use crate::judgement::Due;
-use crate::judging::due_behind;
+use crate::lateness::due_behind;
 use crate::watch::Watch;
 use bus_bounds::Bounds;
 use bus_table::{Sender, Table};

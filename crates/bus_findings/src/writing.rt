@@ -15,8 +15,10 @@ ghost use Rattle.bus_findings.specs.inside.Standing.{AreFew, AreWatched};
 
 use crate::heard::Heard;
 use crate::judging::judge;
+use crate::lacks::shortest_sync;
 use crate::lengths::settled;
-use crate::lines::{put_judgement, put_silence, put_terminal, put_totals, put_unjudged};
+use crate::lines::{put_judgement, put_silence};
+use crate::numbers::{put_terminal, put_totals, put_unjudged};
 use crate::silences::silence;
 use crate::totals::{Totals, once};
 use crate::watch::Watch;
@@ -42,13 +44,14 @@ fn put_judged<K: Sink>(
     requires sound { AreLong bounds list.now }
     requires few { (i : ℕ) → i < length list.now → i < 2 ^ 50 }
     requires watched { AreWatched bounds table.now list.now 0 watches.old }
-    ensures adds { Adds K.held K.faults sink.old sink.new text.old text.new (flat_map (texts.entry_lines bounds table.now list.now) list.now) }
+    ensures adds { Adds K.held K.faults sink.old sink.new text.old text.new
+        (flat_map (texts.entry_lines bounds table.now list.now) list.now) }
     ensures totals { result ≡ totals_among bounds table.now list.now list.now }
     ensures few { AreFew result (2 ^ 52) }
     ensures watched { AreWatched bounds table.now list.now (length list.now) watches.new }
 {
     let settled = settled(bounds, table);
-    let mut heard = Heard::nothing(bounds, list);
+    let mut heard = Heard::nothing(bounds, shortest_sync(bounds, table), list);
     let mut totals = Totals::none();
     for i in 0..list.len() {
         let x = &list[i];
@@ -186,8 +189,9 @@ fn put_findings<K: Sink>(
 
 /// Writes what is found in a recording of a bus of this table, and says whether there is a fault. The bounds are in bit times.
 ///
-/// It goes over the recording once, in time that goes with the transmissions times the senders, and takes no memory. At `WriteFault`, which
-/// comes only where the sink's count of faults rose, the sink has taken a front of the text.
+/// It goes over the recording once, and takes no memory. Of a bus within its bounds nearly every start is judged at once, by the last
+/// long stretch in which nobody was heard; else by what was sent since its terminal's last one. At `WriteFault`, which comes only where
+/// the sink's count of faults rose, the sink has taken a front of the text.
 pub fn write_findings<K: Sink>(
     table: &Table,
     trace: &Trace,

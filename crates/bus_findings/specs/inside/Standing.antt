@@ -18,6 +18,7 @@ use Rattle.bus_findings.specs.declared.watch.Last.{Last}
 use Rattle.bus_findings.specs.declared.watch.Watch.{Watch}
 use Rattle.bus_findings.specs.Amounts.{greatest}
 use Rattle.bus_findings.specs.Recorded.{recorded, reach}
+use Rattle.bus_findings.specs.inside.Calm.{IsQuiet}
 use Rattle.bus_findings.specs.Terminals.{own, apart, faults_among, early_count, once, is_late}
 
 -- The greatest soonest end of those of a terminal, and of those of others.
@@ -48,6 +49,7 @@ pub record IsHeard (bounds : Bounds) (list : List Entry) (i : ℕ) (heard : Hear
   pub soonest : AreEnds (recorded bounds (take i list)) heard.soonest
   pub latest : heard.latest ≡ latest_end (reach bounds) (recorded bounds (take i list))
   pub latest_bound : heard.latest < 2 ^ 42
+  pub quiet : IsQuiet bounds list i heard.quiet
 
 -- How many have begun more than the reach before a moment: these, at least.
 pub record HasBegun (bounds : Bounds) (list : List Entry) (moment : ℕ) (heard : Heard) : Type 0 where

@@ -18,7 +18,8 @@ due_at over tg elapsed t = record { moment = t; timer = last_over over tg elapse
 -- When the terminal was due.
 abbrev pub due : ℕ → ℕ → ℕ → ℕ → ℕ → ℕ → List Seen → Option Due
 due rest sg tg over start from between =
-    option_map (due_at over tg (walk.first_elapsed rest sg start from None between)) (walk.first_due rest sg tg over start from None between)
+    option_map (due_at over tg (walk.first_elapsed rest sg start from None between))
+    (walk.first_due rest sg tg over start from None between)
 
 -- What lacks of the shortest synchronization gap.
 abbrev pub sync_lack : ℕ → ℕ → ℕ → ℕ → ℕ → List Seen → ℕ

@@ -6,7 +6,7 @@ use Rattle.bus_bounds.specs.Bounds.{long}
 use Rattle.bus_findings.specs.Recorded.{seen, recorded, reach, timers_of, monitor_of}
 use Rattle.bus_findings.proofs.PlaceLemmas.{read_is}
 use Rattle.bus_findings.proofs.WalkLemmas.{due_at, due_same}
-use Rattle.bus_findings.proofs.judging.due_behind.Goals as goal
+use Rattle.bus_findings.proofs.lateness.due_behind.Goals as goal
 
 pub returns : goal.returns
 returns c = λ o there.

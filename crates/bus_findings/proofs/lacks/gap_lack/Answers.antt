@@ -6,7 +6,7 @@ use Rattle.bus_findings.specs.Recorded.{timers_of}
 use Rattle.bus_findings.specs.inside.Walked as walked
 use Rattle.bus_findings.proofs.PlaceLemmas.{read_is}
 use Rattle.bus_findings.proofs.JudgeLemmas.{gap_at}
-use Rattle.bus_findings.proofs.judging.gap_lack.Goals as goal
+use Rattle.bus_findings.proofs.lacks.gap_lack.Goals as goal
 
 pub returns : goal.returns
 returns c = λ y at mine.

@@ -9,7 +9,7 @@ use Rattle.bus_findings.specs.Recorded.{seen, recorded, timers_of, monitor_of}
 use Rattle.bus_findings.specs.inside.Standing.{IsStretch}
 use Rattle.bus_findings.proofs.PlaceLemmas.{read_is}
 use Rattle.bus_findings.proofs.JudgeLemmas.{stretch_to, late_at}
-use Rattle.bus_findings.proofs.judging.late_behind.Goals as goal
+use Rattle.bus_findings.proofs.lateness.late_behind.Goals as goal
 
 pub due_behind-requires-clause-stretch : goal.due_behind-requires-clause-stretch
 due_behind-requires-clause-stretch c =
@@ -49,3 +49,10 @@ returns c = λ o y there at.
     let some : 0 < timers.long.ti = omega (arith, c.ti_of-some.ensures.some, c.ti_of-some.ensures.value) in
     late_at timers monitor bounds list c.args.sender.now.number place c.args.i o y due made
     (stretch_to bounds list c.args.sender.now.number c.args.i c.args.last y c.requires.order at c.requires.here c.requires.last) there some is refl amount passed
+
+pub returns-then-is_plain : goal.returns-then-is_plain
+returns-then-is_plain c = λ o y there at.
+    let bounds = c.args.bounds in
+    let list = c.args.list.now in
+    let none = c.is_plain.ensures o y there at c.if-is_plain.true in
+    sym (ap (option_map (late_by (recorded bounds list) (seen bounds y))) none)
