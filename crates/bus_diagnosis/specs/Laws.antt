@@ -32,9 +32,8 @@ pub record GiveEvenHands (table : Table) (items : List Item) (rounds : ℕ) : Ty
   pub even : IsTrue (are_even table (hands_of table items))
   pub count : rounds ≡ rounds_of (hands_of table items)
 
--- ---- a messages text
--- The text is within its limit, its items give even hands, and their closed schedule ends at this moment, which is within its limit too: all
--- that `run` asks for of an accepted table.
+-- ---- a messages text The text is within its limit, its items give even hands, and their closed schedule ends at this moment, which is
+-- within its limit too: all that `run` asks for of an accepted table.
 pub record MayRun (table : Table) (text : List ℕ) (rounds end : ℕ) : Type 0 where
   pub within : length text ≤ text_limit
   pub items : List Item

@@ -49,13 +49,15 @@ StandsWherePlanned (Undecided least ti) = Unit {0}
 -- where no offsets bear d in the table's interval, the second number, nor in any below the first; and `UNDECIDED` only where the turns, the
 -- first number, fit the interval, no plan for d does, the given table doesn't bear d, and the least interval for d isn't known.
 pub record GivesPlanFor (d : ℕ) (table : Table) (call : Call) (status : Status) : Type 0 where
-  pub gives : Answers (status_of (cable_plan_outcome (plan_for_of d table))) (λ text. text ≡ cable_plan_text (plan_for_of d table)) call status
+  pub gives : Answers (status_of (cable_plan_outcome (plan_for_of d table))) (λ text. text ≡ cable_plan_text (plan_for_of d table))
+      call status
   pub stands : StandsWherePlanned (plan_for_of d table)
   pub means : Means d table (plan_for_of d table)
 
 -- What is written of a table that is planned for the greatest delay: the plan bears the greatest delay that any offsets bear. `INFEASIBLE`
 -- comes only where none bear 0, and `UNDECIDED` only where it isn't known whether some bear more than those that are found.
 pub record GivesPlanBest (table : Table) (call : Call) (status : Status) : Type 0 where
-  pub gives : Answers (status_of (cable_plan_outcome (plan_best_of table))) (λ text. text ≡ cable_plan_text (plan_best_of table)) call status
+  pub gives : Answers (status_of (cable_plan_outcome (plan_best_of table))) (λ text. text ≡ cable_plan_text (plan_best_of table))
+      call status
   pub stands : StandsWherePlanned (plan_best_of table)
   pub means : MeansBest table (plan_best_of table)

@@ -43,8 +43,8 @@ pub record TellsBeside (table : Table) (text : List ℕ) : Type 0 where
   pub trace : (count horizon end : ℕ) → diagnosis_of table text ≡ Recorded count horizon end
       → (trace : Recording) × HoldsTrace trace_limit text trace × (count ≡ length trace.list) × (horizon ≡ trace.horizon)
 
--- What is found of the text is written, or where no accepted table stands beside it what is said of that: the status is Done where the table
--- is accepted and nothing is wrong with the text, else Refused. What is told of the text holds.
+-- What is found of the text is written, or where no accepted table stands beside it what is said of that: the status is Done where the
+-- table is accepted and nothing is wrong with the text, else Refused. What is told of the text holds.
 pub record GivesDiagnosis (table text : List ℕ) (call : Call) (status : Status) : Type 0 where
   pub gives : Answers (status_of (beside_answer (beside table text))) (λ written. written ≡ beside_told (beside table text)) call status
   pub tells : (valid : Table) → IsTrue (is_valid valid) → IsTrue (is_accepted (verdict_of valid)) → TellsBeside valid text

@@ -30,11 +30,11 @@ pub record IsFactsOf (text : List ℕ) (call : Call) : Type 0 where
   pub short : length text ≤ text_limit
   pub undisturbed : NothingFails (one_source entire) call.before call.after
 
--- The facts of the text are written: the status is Done where it gives a table that the verdict accepts, else Refused. What they tell of a
--- valid table holds: what `explain` tells of it, and of an accepted one that it bears exactly the delays that each of its rules bears, and
--- that data which just miss a start have been received within the latency that is told, and, in aperiodic mode too, that its bus keeps order
--- as its level says where oscillators are off by up to 50 millionths. What it lists as what may stand at a refused line is exactly what goes
--- on.
+-- The facts of the text are written: the status is Done where it gives a table that the verdict accepts, else Refused. What they tell
+-- of a valid table holds: what `explain` tells of it, and of an accepted one that it bears exactly the delays that each of its rules
+-- bears, and that data which just miss a start have been received within the latency that is told, and, in aperiodic mode too, that its
+-- bus keeps order as its level says where oscillators are off by up to 50 millionths. What it lists as what may stand at a refused line
+-- is exactly what goes on.
 pub record GivesFacts (text : List ℕ) (call : Call) (status : Status) : Type 0 where
   pub gives : Answers (status_of (explain_answer text)) (λ written. written ≡ facts_text text) call status
   pub accepted : (table : Table) → IsTrue (is_valid table) → IsTrue (is_accepted (verdict_of table)) → ExplainsAccepted table

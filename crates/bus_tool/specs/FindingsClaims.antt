@@ -36,16 +36,16 @@ pub record IsDiagnoseOf (bounds : Bounds) (table : Table) (trace : Recording) (c
   pub within : AreNear bounds
   pub traced : IsOfTraced (codes "diagnose") (delay ∷ jitter ∷ clocks ∷ []) table trace call
 
--- What an amount means of the terminal that it is told of, whatever this one and the others did, on any bus: how much too short its interval
--- was, how much of the quiet was missing that it has to hear, and how long it had been due.
+-- What an amount means of the terminal that it is told of, whatever this one and the others did, on any bus: how much too short its
+-- interval was, how much of the quiet was missing that it has to hear, and how long it had been due.
 pub record AreTrue : Type 0 where
   pub interval : IntervalIsTrue
   pub terminal_gap : GapIsTrue
   pub sync_gap : SyncIsTrue
   pub late : LateIsTrue
 
--- What is found in the trace, as a recording of a bus of the table within the bounds, is written, and the status is Refused where a fault is
--- among it, else Done.
+-- What is found in the trace, as a recording of a bus of the table within the bounds, is written, and the status is Refused where a
+-- fault is among it, else Done.
 --   unblamed  no false alarm: on a bus that goes in whole bit times a sender that keeps its bounds, and hears the bus as it is recorded,
 --             is told no fault by a timer, whatever the other terminals do, and whatever came before the recording
 --   files     nor is it on any bus, where the trace is the file of a monitor: in whole bit times, rounded down, of a bus that ran before
@@ -60,7 +60,8 @@ pub record AreTrue : Type 0 where
 --             less than a bit time, or two
 --   gap       and the amount of its terminal gap, be the start the first of its sender
 pub record GivesFindings (bounds : Bounds) (table : Table) (trace : Recording) (call : Call) (status : Status) : Type 0 where
-  pub gives : Answers (status_of (findings_outcome (has_fault bounds table trace))) (λ text. text ≡ findings_text bounds table trace) call status
+  pub gives : Answers (status_of (findings_outcome (has_fault bounds table trace))) (λ text. text ≡ findings_text bounds table trace)
+      call status
   pub unblamed : (sender : Sender) (x : Entry) → Keeps bounds table trace sender → IsOfSender table trace sender x
       → IsUnblamed (judgement_of bounds table trace.list x)
   pub files : (sender : Sender) (x : Entry) → KeepsInFile bounds table trace sender → IsOfSender table trace sender x
@@ -75,8 +76,9 @@ pub record GivesFindings (bounds : Bounds) (table : Table) (trace : Recording) (
       → AreAmounts (timers_of bounds table sender) (monitor_of bounds table) (recorded bounds trace.list) o (seen bounds x)
       (judgement_of bounds table trace.list x)
   pub meaning : AreTrue
-  pub ticks : (sender : Sender) (s : StandsInFile bounds table trace sender) (x : Entry) (o : Seen) → StartsSingly bounds table trace sender s
-      → IsOfSender table trace sender x → last_start (recorded bounds trace.list) x.terminal x.moment ≡ Some o
+  pub ticks : (sender : Sender) (s : StandsInFile bounds table trace sender) (x : Entry) (o : Seen)
+      → StartsSingly bounds table trace sender s → IsOfSender table trace sender x
+      → last_start (recorded bounds trace.list) x.terminal x.moment ≡ Some o
       → IsMeantOf bounds table trace sender s x o
   pub gap : (sender : Sender) (s : StandsInFile bounds table trace sender) (x : Entry) → StartsSingly bounds table trace sender s
       → IsOfSender table trace sender x → 0 < (judgement_of bounds table trace.list x).terminal_gap

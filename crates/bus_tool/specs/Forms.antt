@@ -13,7 +13,8 @@ use Rattle.bus_command.specs.About.{about_of}
 pub use Rattle.bus_command.specs.Bounding.{is_within, are_bounds, most_near_delay, most_near_jitter, are_near_bounds, bounds_of}
 use Rattle.bus_command.specs.Readers.{Named, Reader, Entire, entire, no_source, one_source, by_trace, two_sources}
 pub use Rattle.bus_tool.specs.declared.forms.Form.{Form}
-pub use Rattle.bus_tool.specs.declared.forms.Form.TheVariants.{OnTable, OnMessages, OnTrace, Unwave, Drill, OnItself, Explain, ExplainBeside, Facts, Cable}
+pub use Rattle.bus_tool.specs.declared.forms.Form.TheVariants.{OnTable, OnMessages, OnTrace, Unwave, Drill, OnItself}
+pub use Rattle.bus_tool.specs.declared.forms.Form.TheVariants.{Explain, ExplainBeside, Facts, Cable}
 pub use Rattle.bus_tool.specs.declared.forms.TableCommand.{TableCommand}
 pub use Rattle.bus_tool.specs.declared.forms.TableCommand.TheVariants.{Check, Tolerance, Tidy, Report, Witness, Plan, PlanFor, Margins}
 pub use Rattle.bus_tool.specs.declared.forms.PlanDelay.{PlanDelay}
@@ -60,7 +61,8 @@ plan_delay_of word =
 abbrev pub plan_for : PlanDelay → Form
 plan_for delay = OnTable (PlanFor delay)
 
--- `plan T D`, `plan T best`, `explain T F`, `run T M`, `drop T M`, `schedule T M`, `receive T R`, `audit T R`, `vote T R`, `wave T R`, `unwave T W`.
+-- `plan T D`, `plan T best`, `explain T F`, `run T M`, `drop T M`, `schedule T M`, `receive T R`, `audit T R`, `vote T R`, `wave T R`,
+-- `unwave T W`.
 abbrev pub three_words : List ℕ → List ℕ → Option Form
 three_words command third =
     if bytes_eq command (codes "plan") then option_map plan_for (plan_delay_of third)
@@ -91,7 +93,8 @@ five_words command delay jitter clocks =
 -- `diagnose T R D J P`
 abbrev pub six_words : (command delay jitter clocks : List ℕ) → Option Form
 six_words command delay jitter clocks =
-    if bytes_eq command (codes "diagnose") && are_near_bounds delay jitter clocks then Some (OnTrace (Diagnose (bounds_of delay jitter clocks)))
+    if bytes_eq command (codes "diagnose") && are_near_bounds delay jitter clocks
+    then Some (OnTrace (Diagnose (bounds_of delay jitter clocks)))
     else None
 
 -- The form of these words, whatever the words T and M are.

@@ -51,8 +51,8 @@ Settles bus most =
     (c : Course) (up : ℕ) → IsCourse bus c → HaveLeft bus c → IsLeftAlone bus c up
     → (origin : ℕ) × (origin + (among bus).delay ≤ up + most) × HasSettled bus c up origin
 
--- Every course of such a bus is in order from the beginning that begins cold, whose senders are powered up at about the same time and have as
--- many messages each.
+-- Every course of such a bus is in order from the beginning that begins cold, whose senders are powered up at about the same time and
+-- have as many messages each.
 abbrev pub KeepsOrder : Bus → Type 0
 KeepsOrder bus = (c : Course) → IsCourse bus c → IsCold bus c → ArePoweredWithin bus c → AreEven bus c → IsInOrder bus c
 
@@ -68,22 +68,23 @@ pub record TellsMargins (bounds : Bounds) (table : Table) : Type 0 where
       × (most_apart bounds table ≡ most_round (among (bus_of bounds table)))
   pub borne : IsBorne (keeps bounds table (level_of bounds table)) (borne_with (keeps bounds table (level_of bounds table)))
 
--- Every course on the bus of a periodic table, whose senders have as many messages each, and which begins at any moment: power-ups lie within
--- the delay from then on, and each sender is due for the first time within its bounds.
+-- Every course on the bus of a periodic table, whose senders have as many messages each, and which begins at any moment: power-ups lie
+-- within the delay from then on, and each sender is due for the first time within its bounds.
 abbrev pub OnEachCourse : Bounds → Table → (Course → ℕ → Type 0) → Type 0
 OnEachCourse bounds table holds =
     (c : Course) (start : ℕ) → IsCourse (bus_of bounds table) c → AreEven (bus_of bounds table) c
     → Begins (bus_of bounds table) c start (soon_of bounds table) (late_of bounds table) → holds c start
 
 -- What the lines of a periodic table tell of its bus within these bounds:
---   turns    at level `turns` all take turns and keep pace for ever, whoever is the slowest, and two starts of a sender, one behind the other,
---            are at least and at most as far apart as they are told to be
+--   turns    at level `turns` all take turns and keep pace for ever, whoever is the slowest, and two starts of a sender, one behind the
+--            other, are at least and at most as far apart as they are told to be
 --   leads    at level `leads` all take turns behind the first sender, and two starts are as far apart
 --   borne    and of each bound the greatest, alone changed, with which the level is no lower.
 pub record TellsTurns (bounds : Bounds) (table : Table) : Type 0 where
   pub turns : turns_level bounds table ≡ Turns → OnEachCourse bounds table (KeepTurns bounds table)
   pub leads : turns_level bounds table ≡ Leads → OnEachCourse bounds table (FollowFirst bounds table)
-  pub borne : IsBorne (keeps_turns bounds table (turns_level bounds table)) (borne_with (keeps_turns bounds table (turns_level bounds table)))
+  pub borne : IsBorne (keeps_turns bounds table (turns_level bounds table))
+      (borne_with (keeps_turns bounds table (turns_level bounds table)))
 
 -- The margins of an accepted table are written, which tell what they say, and the status is Done where it has a level, else Refused; of a
 -- refused one its verdict line is, and the status is Refused.

@@ -33,14 +33,15 @@ use Rattle.bus_tool.specs.WaveClaims.{GivesWave, IsUnwaveOf, GivesUnwaved}
 -- `itself` takes none:
 --   check     the verdict line of a valid table; status 0 comes only for a settled table, status 1 only for one that isn't
 --   tolerance its tolerance line, which tells how much delay it bears, exactly, and whether order comes from any start; or its verdict line
---   margins   of a table and bounds: its margins, of which the level says what order comes on every bus within these, of an aperiodic one by
---             itself or from a common start, of a periodic one for ever, and how far apart two starts of a sender are; or its verdict line
+--   margins   of a table and bounds: its margins, of which the level says what order comes on every bus within these, of an aperiodic one
+--             by itself or from a common start, of a periodic one for ever, and how far apart two starts of a sender are; or its verdict
+--             line
 --   witness   the messages of its witness
 --   tidy      its canonical text
 --   plan      of a periodic table: the planned table, which is accepted, or that no offsets are
 --   plan_for  `plan` of a periodic table and a delay: the table at offsets that bear it, or that none do, or that neither is known
---   plan_best `plan` of a periodic table and `best`: the table at offsets that bear the greatest delay that any bear, or that none bear 0, or
---             that it isn't known whether some bear more
+--   plan_best `plan` of a periodic table and `best`: the table at offsets that bear the greatest delay that any bear, or that none bear 0,
+--             or that it isn't known whether some bear more
 --   report    its report, and the status of its verdict
 --   drill     the line of that drill
 --   observe   of items that fit: the one trace
@@ -49,8 +50,8 @@ use Rattle.bus_tool.specs.WaveClaims.{GivesWave, IsUnwaveOf, GivesUnwaved}
 --   schedule  of items that fit any table, as many for each sender: the closed schedule as a trace, which `run` writes of an accepted table
 --   receive   of a trace: what each terminal receives
 --   audit     what an audit finds
---   diagnose  of a trace and bounds: the text of what is found in it, as a recording of a bus of the table within the bounds; whoever keeps its
---             bounds is told no fault by a timer, and what is told of a start behind another is as much as happened
+--   diagnose  of a trace and bounds: the text of what is found in it, as a recording of a bus of the table within the bounds; whoever keeps
+--             its bounds is told no fault by a timer, and what is told of a start behind another is as much as happened
 --   vote      the votes; two equal channels fix a vote, and of the trace of a run every round is voted, from the words of the hands
 --   wave      of a spaced trace: its wave text; the trace of a run is spaced, and read from it; two with the same wave are equal
 --   unwave    of the wave text of a trace: the text of the trace

@@ -62,8 +62,8 @@ fn planned_for(alloc: Global, table: &Table, delay: PlanDelay) -> Result<CablePl
     }
 }
 
-/// Chooses the offsets of a periodic table so that it bears this delay, and writes the planned table, or that there is none, or that neither
-/// is known.
+/// Chooses the offsets of a periodic table so that it bears this delay, and writes the planned table, or that there is none, or that
+/// neither is known.
 pub fn plan_for<K: Sink>(alloc: Global, table: &Table, delay: PlanDelay, out: &mut K) -> Outcome
     requires periodic { table.now.mode ≡ Periodic }
     requires limit { IsPlannable delay }

@@ -42,8 +42,8 @@ pub enum TableCommand {
     Witness,
     /// `plan T`: the periodic table in the file `T` with offsets chosen anew, or that no offsets are accepted.
     Plan,
-    /// `plan T D`, `plan T best`: the periodic table in the file `T` with offsets chosen so that it bears a delay, or that no offsets do, or
-    /// that neither is known.
+    /// `plan T D`, `plan T best`: the periodic table in the file `T` with offsets chosen so that it bears a delay, or that no offsets
+    /// do, or that neither is known.
     PlanFor {
         /// D, or the greatest delay that any offsets bear.
         delay: PlanDelay,
