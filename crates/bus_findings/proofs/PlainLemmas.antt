@@ -79,6 +79,15 @@ not_due : (tg over start c m : ℕ) → (e : Option ℕ) → m < c + tg → walk
 not_due tg over start c m None less = refl
 not_due tg over start c m (Some e) less = rw (lt-leb (max over (max (e + tg) (c + tg))) m (omega (arith, less))) refl
 
+-- the start itself is no moment before it
+last_not_due : (tg over start c : ℕ) → (e : Option ℕ) → start ≤ c + tg → walk.due_in tg over start c start e ≡ None
+last_not_due tg over start c None low = refl
+last_not_due tg over start c (Some e) low =
+    elim (cases_Bool (nat_le (max over (max (e + tg) (c + tg))) start)) [
+      | inl holds ↦ rw holds (rw (le-ltb (max over (max (e + tg) (c + tg))) start (omega (arith, low))) refl)
+      | inr fails ↦ rw fails refl
+    ]
+
 -- in short stretches the synchronization gap doesn't elapse
 front_passes : (rest sg tg over start : ℕ) → (c : ℕ) (front l : List Seen) → AreNarrow rest sg c front
     → walk.first_due rest sg tg over start c None (front ++ l) ≡ walk.first_due rest sg tg over start (walk_end rest c front) None l
@@ -89,9 +98,9 @@ front_passes rest sg tg over start c (r ∷ front) l narrow =
     ∙ front_passes rest sg tg over start (max c (r.latest + rest)) front l narrow.1
 
 -- and in stretches that are shorter than the terminal gap nothing is due
-rest_passes : (rest sg tg over start : ℕ) → (c : ℕ) (e : Option ℕ) (l : List Seen) → AreNarrow rest tg c l → start < walk_end rest c l + tg
+rest_passes : (rest sg tg over start : ℕ) → (c : ℕ) (e : Option ℕ) (l : List Seen) → AreNarrow rest tg c l → start ≤ walk_end rest c l + tg
     → walk.first_due rest sg tg over start c e l ≡ None
-rest_passes rest sg tg over start c e [] narrow last = not_due tg over start c start (walk.elapsed_by sg c start e) last
+rest_passes rest sg tg over start c e [] narrow last = last_not_due tg over start c (walk.elapsed_by sg c start e) last
 rest_passes rest sg tg over start c e (r ∷ l) narrow last =
     let u : Option ℕ = walk.elapsed_by sg c r.moment e in
     ap (λ d. walk.first_of d (walk.first_due rest sg tg over start (max c (r.latest + rest)) u l)) (not_due tg over start c r.moment u narrow.0)
@@ -113,7 +122,7 @@ here_passes tg over start c m sg short (Some e) is =
 
 pub none_due : (rest sg tg over start c : ℕ) (front : List Seen) (r : Seen) (l : List Seen) → AreNarrow rest sg c front
     → (r.moment < over) ⊎ (r.moment < walk_end rest c front + sg + tg) → AreNarrow rest tg (max (walk_end rest c front) (r.latest + rest)) l
-    → start < walk_end rest (max (walk_end rest c front) (r.latest + rest)) l + tg
+    → start ≤ walk_end rest (max (walk_end rest c front) (r.latest + rest)) l + tg
     → walk.first_due rest sg tg over start c None (front ++ r ∷ l) ≡ None
 none_due rest sg tg over start c front r l before short behind last =
     let d : ℕ = walk_end rest c front in
@@ -203,7 +212,7 @@ end_reached bounds list rest n a b c is covers =
 pub none_plain : (bounds : Bounds) (list : List Entry) (rest sg tg over start end c place q i long since from : ℕ) (o x : Entry)
     → slice_get list place ≡ Some o → place < q → q < i → slice_get list q ≡ Some x → end_before bounds list place ≤ c → (seen bounds o).latest ≤ c
     → AreClose bounds list long (place + 1) q → long ≤ sg → AreClose bounds list (since + 1) (q + 1) i → since + 1 ≤ tg
-    → from ≤ end_before bounds list q → end ≤ end_before bounds list i → start < end + tg → (x.moment < over) ⊎ (x.moment < from + sg + tg)
+    → from ≤ end_before bounds list q → end ≤ end_before bounds list i → start ≤ end + tg → (x.moment < over) ⊎ (x.moment < from + sg + tg)
     → walk.first_due rest sg tg over start c None (recorded bounds (slice_range list (place + 1) i)) ≡ None
 none_plain bounds list rest sg tg over start end c place q i long since from o x there low high at covers own before wide behind thin reached last least short =
     let a : ℕ = place + 1 in

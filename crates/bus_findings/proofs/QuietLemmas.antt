@@ -134,7 +134,7 @@ walk_is_plain bounds list i place end start c quiet over o x is there at covers 
     let tg : ℕ = over.terminal_gap in
     let sg : ℕ = over.sync_gap in
     let last_test : Bool = nat_lt x.moment over.interval || nat_lt x.moment (quiet.from + sg + tg) in
-    let end_test : Bool = nat_lt start (end + tg) && last_test in
+    let end_test : Bool = nat_le start (end + tg) && last_test in
     let thin_test : Bool = nat_lt quiet.since tg && end_test in
     let wide_test : Bool = nat_le quiet.long sg && thin_test in
     let behind_test : Bool = nat_lt place quiet.place && wide_test in
@@ -145,13 +145,13 @@ walk_is_plain bounds list i place end start c quiet over o x is there at covers 
           let b = and_parts (nat_lt place quiet.place) wide_test a.1 in
           let d = and_parts (nat_le quiet.long sg) thin_test b.1 in
           let e = and_parts (nat_lt quiet.since tg) end_test d.1 in
-          let f = and_parts (nat_lt start (end + tg)) last_test e.1 in
+          let f = and_parts (nat_le start (end + tg)) last_test e.1 in
           let first : quiet.earlier ≤ place = leb-true quiet.earlier place a.0 in
           let low : place < quiet.place = ltb-true place quiet.place b.0 in
           let within : quiet.place ≤ i - 1 = is.place in
           let long : quiet.long ≤ sg = leb-true quiet.long sg d.0 in
           let thin : quiet.since < tg = ltb-true quiet.since tg e.0 in
-          let last : start < end + tg = ltb-true start (end + tg) f.0 in
+          let last : start ≤ end + tg = leb-true start (end + tg) f.0 in
           none_plain bounds list (reach bounds) sg tg over.interval start end c place quiet.place i quiet.long quiet.since quiet.from o x there low
           (omega (arith, low, within)) at covers own (λ j z left right j_at. is.before j z (omega (arith, first, left)) right j_at) long is.since (omega (arith, thin))
           is.exact least last (elim (or_cases (nat_lt x.moment over.interval) (nat_lt x.moment (quiet.from + sg + tg)) f.1) [

@@ -121,7 +121,7 @@ impl Quiet {
                 && place < self.place
                 && self.long <= over.sync_gap
                 && self.since < gap
-                && start < end + gap
+                && start <= end + gap
                 && (x.moment < over.interval || x.moment < self.from + over.sync_gap + gap))
     }
 }

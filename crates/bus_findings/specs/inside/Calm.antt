@@ -45,5 +45,5 @@ rules_out quiet place over end start m =
     && (nat_lt place quiet.place
     && (nat_le quiet.long over.sync_gap
     && (nat_lt quiet.since over.terminal_gap
-    && (nat_lt start (end + over.terminal_gap)
+    && (nat_le start (end + over.terminal_gap)
     && (nat_lt m over.interval || nat_lt m (quiet.from + over.sync_gap + over.terminal_gap)))))))
