@@ -237,6 +237,17 @@ lanes_agree table trace valid is =
     either true = refl
     either false = refl
 
+-- so no terminal has two
+pub lane_once : (table : Table) (trace : Recording) (n : ℕ) → IsTrue (is_valid table) → IsTrace trace → lane_count table trace.list n ≤ 1
+lane_once table trace n valid is =
+    let list : List Entry = trace.list in
+    subst (λ k. k ≤ 1) (sym (lanes_counted table list n (valid_facts table valid) (senders_range trace.horizon n list is.list)))
+    (once (is_sender table n || sends list n))
+  where
+    once : (b : Bool) → cond b 1 0 ≤ 1
+    once true = omega arith
+    once false = omega arith
+
 -- so who sends has a lane
 kept_in : (n : ℕ) (ls : List Lane) → 0 < kept (λ (l : Lane). eqb l.terminal n) ls → (lane : Lane) × In lane ls × (lane.terminal ≡ n)
 kept_in n [] some = absurd (omega arith)

@@ -32,6 +32,7 @@ pub mod SmallLemmas
 pub mod IdleLemmas
 pub mod StampLemmas
 pub mod SaveLemmas
+pub mod OpenLemmas
 pub mod LaneLawLemmas
 pub mod NumberLemmas
 pub mod NameLemmas

@@ -1,31 +1,28 @@
--- Each signal of each dump is shown by the save file.
-use Rattle.std.proofs.Common.{◌≡◌, ◌⊎◌, ℕ, codes, decimal, Option, ◌+◌, ◌-◌, ◌*◌, ◌^◌, ◌≤◌, arith, drop, Bool, true, false, not, ◌&&◌, cond, List, [], ◌∷◌, ◌++◌, inl, inr, sym, refl, ap, ◌∙◌, subst, append_assoc, append-nil}
+-- What the lines of a save file show.
+use Rattle.std.proofs.Common.{◌≡◌, ◌⊎◌, ℕ, codes, decimal, Option, ◌-◌, drop, Bool, true, false, not, ◌&&◌, cond, eqb, List, [], ◌∷◌, ◌++◌, inl, inr, sym, refl, ap, ◌∙◌, subst, append_assoc, append-nil}
 use Rattle.std.specs.List.{flat_map}
-use Rattle.std.specs.Int.Count.{count_leading_zeros}
-use Rattle.std.proofs.lemmas.Nat.{leading_length}
 use Rattle.bus_strings.specs.Members.{In}
-use Rattle.bus_strings.proofs.MemberLaws.{from_filter, in_append_cases}
+use Rattle.bus_strings.proofs.MemberLaws.{from_filter}
 use Rattle.bus_table.specs.Tables.{Table}
 use Rattle.bus_dump.specs.declared.dump.Dump.{Dump}
 use Rattle.bus_dump.specs.declared.dump.Dump.TheVariants.{Vcd, Wires, Timers}
 use Rattle.bus_dump.specs.declared.lane.Lane.{Lane}
 use Rattle.bus_dump.specs.DumpTexts.{bits_text, name_text}
-use Rattle.bus_dump.specs.Lanes.{lanes}
-use Rattle.bus_dump.specs.Laws.{AllAreShown, EndsLine, OpensOnAll, Shows}
-use Rattle.bus_dump.specs.SaveFiles.{all_shown, are_folded, as_decimal, as_hexadecimal, as_wires, bus_shown, group_begin, group_end, group_mark, heading, label_shown, labels_shown, lane_shown, lane_title, marked, marker_text, messages_shown, nanoseconds, opening, shown, timers_shown, zoom}
+use Rattle.bus_dump.specs.SaveLaws.{EndsLine, HasLines}
+use Rattle.bus_dump.specs.SaveFiles.{FirstBreach, as_decimal, as_hexadecimal, as_wires, beginning_text, bus_shown, group_begin, group_end, group_mark, heading, label_shown, labels_shown, lane_shown, lane_title, marked, marker_text, messages_shown, nanoseconds, opening, shown, timers_shown, zoom}
 use Rattle.bus_dump.specs.Signals.{Signal, Carrier, Overlap, Sync, Breach, Word, Pulse, Garbled, Label, Message, Interval, Synchronization, Gap, May}
-use Rattle.bus_dump.specs.Signals.{bus_signals, has, is_timer, is_wire, lane_signals, signals_of}
+use Rattle.bus_dump.specs.Signals.{has, is_timer, is_wire, lane_signals, signals_of}
 
 -- ---- texts that end with a line feed
-ends_join : (xs ys : List ℕ) → EndsLine xs → EndsLine ys → EndsLine (xs ++ ys)
+pub ends_join : (xs ys : List ℕ) → EndsLine xs → EndsLine ys → EndsLine (xs ++ ys)
 ends_join xs ys h (inl none) = subst EndsLine (sym (ap (λ l. xs ++ l) none ∙ append-nil xs)) h
 ends_join xs ys h (inr e) = inr (xs ++ e.0, ap (λ l. xs ++ l) e.1 ∙ sym (append_assoc xs e.0 (10 ∷ [])))
 
-flat_map_ends : {X : Type 0} (f : X → List ℕ) → ((x : X) → EndsLine (f x)) → (xs : List X) → EndsLine (flat_map f xs)
+pub flat_map_ends : {X : Type 0} (f : X → List ℕ) → ((x : X) → EndsLine (f x)) → (xs : List X) → EndsLine (flat_map f xs)
 flat_map_ends f h [] = inl refl
 flat_map_ends f h (x ∷ xs) = ends_join (f x) (flat_map f xs) (h x) (flat_map_ends f h xs)
 
-shown_ends : (s : Signal) → EndsLine (shown s)
+pub shown_ends : (s : Signal) → EndsLine (shown s)
 shown_ends s = inr (codes "bus." ++ name_text s ++ drop 1 (bits_text s), refl)
 
 heading_ends : (name : List ℕ) → EndsLine (heading name)
@@ -38,8 +35,18 @@ group_end_ends : (folded : Bool) → EndsLine (group_end folded)
 group_end_ends true = inr (codes "@1401200\n-group_end", refl)
 group_end_ends false = inr (codes "@1000200\n-group_end", refl)
 
-opening_ends : (horizon : ℕ) (breach : Option ℕ) → EndsLine (opening horizon breach)
-opening_ends horizon breach = inr (codes "*-" ++ decimal (zoom horizon) ++ codes " " ++ marker_text breach, refl)
+beginning_ends : (from : ℕ) → EndsLine (beginning_text from)
+beginning_ends from =
+    let told : List ℕ = codes "[timestart] " ++ decimal (nanoseconds from) in
+    elim (eqb from 0) as (λ b. EndsLine (cond b [] (told ++ codes "\n"))) [
+      | true ↦ inl refl
+      | false ↦ inr (told, refl)
+    ]
+
+pub opening_ends : (from end : ℕ) (breach : Option FirstBreach) → EndsLine (opening from end breach)
+opening_ends from end breach =
+    let first : List ℕ = codes "*-" ++ decimal (zoom (end - from)) ++ codes " " ++ marker_text breach in
+    ends_join (first ++ codes "\n") (beginning_text from) (inr (first, refl)) (beginning_ends from)
 
 wires_ends : EndsLine as_wires
 wires_ends = inr (codes "@28", refl)
@@ -60,26 +67,30 @@ and_shown xs s h = ends_join xs (shown s) h (shown_ends s)
 and_marked : (xs : List ℕ) → EndsLine xs → EndsLine (xs ++ marked)
 and_marked xs h = ends_join xs marked h marked_ends
 
--- ---- texts that show a signal
-itself : (s : Signal) → Shows s (shown s)
-itself s = record { front = []; behind = []; parts = sym (append-nil (shown s)); line = inl refl }
+-- ---- texts that have lines
+pub itself : (lines : List ℕ) → HasLines lines lines
+itself lines = record { front = []; behind = []; parts = sym (append-nil lines); line = inl refl }
 
-before : {s : Signal} {xs : List ℕ} (ys : List ℕ) → Shows s xs → Shows s (xs ++ ys)
-before {s} {xs} ys h = record {
+pub before : {lines xs : List ℕ} (ys : List ℕ) → HasLines lines xs → HasLines lines (xs ++ ys)
+before {lines} {xs} ys h = record {
   front = h.front;
   behind = h.behind ++ ys;
-  parts = ap (λ l. l ++ ys) h.parts ∙ append_assoc (h.front ++ shown s) h.behind ys;
+  parts = ap (λ l. l ++ ys) h.parts ∙ append_assoc (h.front ++ lines) h.behind ys;
   line = h.line;
 }
 
-behind : {s : Signal} {ys : List ℕ} (xs : List ℕ) → EndsLine xs → Shows s ys → Shows s (xs ++ ys)
-behind {s} {ys} xs e h = record {
+pub behind : {lines ys : List ℕ} (xs : List ℕ) → EndsLine xs → HasLines lines ys → HasLines lines (xs ++ ys)
+behind {lines} {ys} xs e h = record {
   front = xs ++ h.front;
   behind = h.behind;
-  parts = ap (λ l. xs ++ l) h.parts ∙ sym (append_assoc xs (h.front ++ shown s) h.behind)
-      ∙ ap (λ l. l ++ h.behind) (sym (append_assoc xs h.front (shown s)));
+  parts = ap (λ l. xs ++ l) h.parts ∙ sym (append_assoc xs (h.front ++ lines) h.behind)
+      ∙ ap (λ l. l ++ h.behind) (sym (append_assoc xs h.front lines));
   line = ends_join xs h.front e h.line;
 }
+
+-- a signal is shown
+abbrev pub Shows : Signal → List ℕ → Type 0
+Shows s text = HasLines (shown s) text
 
 -- ---- the bus
 abbrev bus1 : List ℕ
@@ -112,7 +123,7 @@ bus4_ends = and_marked (bus3 ++ shown Sync) (and_shown bus3 Sync bus3_ends)
 bus5_ends : EndsLine bus5
 bus5_ends = ends_join (bus4 ++ shown Breach) as_hexadecimal (and_shown bus4 Breach bus4_ends) hexadecimal_ends
 
-of_bus : (s : Signal) → In s (Carrier ∷ (Overlap ∷ (Sync ∷ (Breach ∷ (Word ∷ []))))) → Shows s bus_shown
+pub of_bus : (s : Signal) → In s (Carrier ∷ (Overlap ∷ (Sync ∷ (Breach ∷ (Word ∷ []))))) → Shows s bus_shown
 of_bus s (inl is) = subst (λ z. Shows z bus_shown) (sym is) (record {
   front = bus1;
   behind = marked ++ shown Overlap ++ shown Sync ++ marked ++ shown Breach ++ as_hexadecimal ++ shown Word;
@@ -188,7 +199,7 @@ front_ends folded table lane =
     (group_begin_ends folded (lane_title table lane.terminal))
     (and_shown (messages2 lane.terminal) (Message lane.terminal) (messages2_ends lane.terminal))
 
-lane_ends : (folded : Bool) (table : Table) (lane : Lane) → EndsLine (lane_shown folded table lane)
+pub lane_ends : (folded : Bool) (table : Table) (lane : Lane) → EndsLine (lane_shown folded table lane)
 lane_ends folded table lane =
     let front : List ℕ = lane_front folded table lane in
     ends_join (front ++ cond lane.sender (timers_shown lane.terminal) []) (group_end folded)
@@ -215,10 +226,10 @@ timers_of folded table lane s sender h =
     (subst (λ b. Shows s (cond b (timers_shown lane.terminal) [])) (sym sender) h))
 
 -- a text of both parts
-abbrev Parts : Bool → Table → Signal → Lane → Type 0
+abbrev pub Parts : Bool → Table → Signal → Lane → Type 0
 Parts folded table s lane = Shows s (label_shown lane) ⊎ Shows s (lane_shown folded table lane)
 
-of_lane : (dump : Dump) (folded : Bool) (table : Table) (s : Signal) (lane : Lane) → In s (lane_signals dump lane) → Parts folded table s lane
+pub of_lane : (dump : Dump) (folded : Bool) (table : Table) (s : Signal) (lane : Lane) → In s (lane_signals dump lane) → Parts folded table s lane
 of_lane dump folded table s lane i =
     (let found = from_filter (has dump lane.sender) (signals_of lane.terminal) s i in by found.0 found.1) where
       t : ℕ
@@ -237,85 +248,33 @@ of_lane dump folded table s lane i =
 
       by : In s (signals_of t) → has dump lane.sender s ≡ true → Parts folded table s lane
       by (inl is) h = message (Pulse t) is
-          (before (shown (Message t)) (before as_decimal (before (shown (Garbled t)) (before marked (behind as_wires wires_ends (itself (Pulse t)))))))
-      by (inr (inl is)) h = message (Garbled t) is (before (shown (Message t)) (before as_decimal (behind (messages1 t) (messages1_ends t) (itself (Garbled t)))))
-      by (inr (inr (inl is))) h = inl (subst (λ y. Shows y (label_shown lane)) (sym is) (itself (Label t)))
-      by (inr (inr (inr (inl is)))) h = message (Message t) is (behind (messages2 t) (messages2_ends t) (itself (Message t)))
+          (before (shown (Message t)) (before as_decimal (before (shown (Garbled t)) (before marked (behind as_wires wires_ends (itself (shown (Pulse t))))))))
+      by (inr (inl is)) h = message (Garbled t) is (before (shown (Message t)) (before as_decimal (behind (messages1 t) (messages1_ends t) (itself (shown (Garbled t))))))
+      by (inr (inr (inl is))) h = inl (subst (λ y. Shows y (label_shown lane)) (sym is) (itself (shown (Label t))))
+      by (inr (inr (inr (inl is)))) h = message (Message t) is (behind (messages2 t) (messages2_ends t) (itself (shown (Message t))))
       by (inr (inr (inr (inr (inl is))))) h = timer (Interval t) is refl h
-          (before (shown (May t)) (before marked (before (shown (Gap t)) (before (shown (Synchronization t)) (behind as_wires wires_ends (itself (Interval t)))))))
+          (before (shown (May t)) (before marked (before (shown (Gap t)) (before (shown (Synchronization t)) (behind as_wires wires_ends (itself (shown (Interval t))))))))
       by (inr (inr (inr (inr (inr (inl is)))))) h = timer (Synchronization t) is refl h
-          (before (shown (May t)) (before marked (before (shown (Gap t)) (behind (timers1 t) (timers1_ends t) (itself (Synchronization t))))))
+          (before (shown (May t)) (before marked (before (shown (Gap t)) (behind (timers1 t) (timers1_ends t) (itself (shown (Synchronization t)))))))
       by (inr (inr (inr (inr (inr (inr (inl is))))))) h = timer (Gap t) is refl h
-          (before (shown (May t)) (before marked (behind (timers2 t) (timers2_ends t) (itself (Gap t)))))
-      by (inr (inr (inr (inr (inr (inr (inr (inl is)))))))) h = timer (May t) is refl h (behind (timers3 t) (timers3_ends t) (itself (May t)))
+          (before (shown (May t)) (before marked (behind (timers2 t) (timers2_ends t) (itself (shown (Gap t))))))
+      by (inr (inr (inr (inr (inr (inr (inr (inl is)))))))) h = timer (May t) is refl h (behind (timers3 t) (timers3_ends t) (itself (shown (May t))))
       by (inr (inr (inr (inr (inr (inr (inr (inr none)))))))) h = absurd none
 
--- a lane more, of which the first or a later one shows the signal
-shown_first : (folded : Bool) (table : Table) (s : Signal) (l : Lane) (ls : List Lane)
-    → Shows s (label_shown l) ⊎ Shows s (lane_shown folded table l)
-    → Shows s (flat_map label_shown (l ∷ ls)) ⊎ Shows s (flat_map (lane_shown folded table) (l ∷ ls))
-shown_first folded table s l ls (inl h) = inl (before (flat_map label_shown ls) h)
-shown_first folded table s l ls (inr h) = inr (before (flat_map (lane_shown folded table) ls) h)
-
-shown_later : (folded : Bool) (table : Table) (s : Signal) (l : Lane) (ls : List Lane)
-    → Shows s (flat_map label_shown ls) ⊎ Shows s (flat_map (lane_shown folded table) ls)
-    → Shows s (flat_map label_shown (l ∷ ls)) ⊎ Shows s (flat_map (lane_shown folded table) (l ∷ ls))
-shown_later folded table s l ls (inl h) = inl (behind (label_shown l) (shown_ends (Label l.terminal)) h)
-shown_later folded table s l ls (inr h) = inr (behind (lane_shown folded table l) (lane_ends folded table l) h)
-
-of_lanes : (dump : Dump) (folded : Bool) (table : Table) (s : Signal) (ls : List Lane) → In s (flat_map (lane_signals dump) ls)
-    → Shows s (flat_map label_shown ls) ⊎ Shows s (flat_map (lane_shown folded table) ls)
-of_lanes dump folded table s [] i = absurd i
-of_lanes dump folded table s (l ∷ ls) i = elim (in_append_cases (lane_signals dump l) (flat_map (lane_signals dump) ls) s i) [
-  | inl here ↦ shown_first folded table s l ls (of_lane dump folded table s l here)
-  | inr later ↦ shown_later folded table s l ls (of_lanes dump folded table s ls later)
-]
-
 -- ---- the whole
-bus_ends : EndsLine bus_shown
+pub bus_ends : EndsLine bus_shown
 bus_ends = and_shown bus5 Word bus5_ends
 
 -- what stands before the labels of the lanes, in their group
-abbrev labels_front : Bool → List ℕ
+abbrev pub labels_front : Bool → List ℕ
 labels_front folded = group_begin folded (codes "labels") ++ as_hexadecimal
 
-labels_front_ends : (folded : Bool) → EndsLine (labels_front folded)
+pub labels_front_ends : (folded : Bool) → EndsLine (labels_front folded)
 labels_front_ends folded =
     ends_join (group_begin folded (codes "labels")) as_hexadecimal (group_begin_ends folded (codes "labels")) hexadecimal_ends
 
-labels_end : (folded : Bool) (ls : List Lane) → EndsLine (labels_shown folded ls)
+pub labels_end : (folded : Bool) (ls : List Lane) → EndsLine (labels_shown folded ls)
 labels_end folded ls =
     ends_join (labels_front folded ++ flat_map label_shown ls) (group_end folded)
     (ends_join (labels_front folded) (flat_map label_shown ls) (labels_front_ends folded)
     (flat_map_ends label_shown (λ lane. shown_ends (Label lane.terminal)) ls)) (group_end_ends folded)
-
-shown_of_bus : (table : Table) (ls : List Lane) (s : Signal) → Shows s bus_shown → Shows s (all_shown table ls)
-shown_of_bus table ls s h =
-    let folded = are_folded ls in
-    before (flat_map (lane_shown folded table) ls) (before (labels_shown folded ls) h)
-
-shown_of_lanes : (table : Table) (ls : List Lane) (s : Signal)
-    → Shows s (flat_map label_shown ls) ⊎ Shows s (flat_map (lane_shown (are_folded ls) table) ls) → Shows s (all_shown table ls)
-shown_of_lanes table ls s (inl h) =
-    let folded = are_folded ls in
-    before (flat_map (lane_shown folded table) ls) (behind bus_shown bus_ends
-    (before (group_end folded) (behind (labels_front folded) (labels_front_ends folded) h)))
-shown_of_lanes table ls s (inr h) =
-    let folded = are_folded ls in
-    behind (bus_shown ++ labels_shown folded ls) (ends_join bus_shown (labels_shown folded ls) bus_ends (labels_end folded ls)) h
-
-pub all_are_shown : AllAreShown
-all_are_shown dump table trace breach s i =
-    let ls = lanes table trace.list in
-    behind (opening trace.horizon breach) (opening_ends trace.horizon breach)
-    (elim (in_append_cases (bus_signals dump) (flat_map (lane_signals dump) ls) s i) [
-      | inl bus ↦ shown_of_bus table ls s
-          (of_bus s (from_filter (has dump false) (Carrier ∷ (Overlap ∷ (Sync ∷ (Breach ∷ (Word ∷ []))))) s bus).0)
-      | inr lane ↦ shown_of_lanes table ls s (of_lanes dump (are_folded ls) table s ls lane)
-    ])
-
-pub opens_on_all : OpensOnAll
-opens_on_all horizon few =
-    let least = leading_length 64 (200 * horizon) (omega (arith, few)) in
-    let same : least.0 ≡ 64 - count_leading_zeros 64 (200 * horizon) = omega (arith, least.1) in
-    subst (λ z. 2 * nanoseconds horizon ≤ 5 * 2 ^ z) same (omega (arith, least.2))

@@ -1,10 +1,10 @@
 -- What follows of the definitions. The contracts of `laws` say that each of these holds.
-use Rattle.std.specs.Prelude.{◌≡◌, ◌≢◌, ◌↔◌, ◌⊎◌, ℕ, ◌+◌, ◌-◌, ◌*◌, ◌/◌, ◌%◌, ◌^◌, ◌<◌, ◌≤◌, Bool, true, false, ◌&&◌, ◌||◌}
+use Rattle.std.specs.Prelude.{◌≡◌, ◌≢◌, ◌↔◌, ◌⊎◌, ℕ, ◌+◌, ◌-◌, ◌*◌, ◌/◌, ◌%◌, ◌<◌, ◌≤◌, Bool, true, false, ◌&&◌, ◌||◌}
 use Rattle.std.specs.Prelude.{◌==◌, nat_le, nat_lt}
-use Rattle.std.specs.Prelude.{List, [], ◌∷◌, ◌++◌, length, slice_get, Option, Some, None, IsTrue, if◌then◌else◌}
+use Rattle.std.specs.Prelude.{List, [], ◌++◌, length, slice_get, Option, Some, None, IsTrue, if◌then◌else◌}
 use Rattle.std.specs.List.{AllByRecursion, count_by, filter, flat_map, list_any, range_with_len}
 use Rattle.std.specs.Option.{is_some, option_map_or}
-use Rattle.bus_strings.specs.Limits.{horizon_limit, word_bits}
+use Rattle.bus_strings.specs.Limits.{word_bits}
 use Rattle.bus_strings.specs.Members.{In}
 use Rattle.bus_strings.specs.Messages.{Entry}
 use Rattle.bus_strings.specs.Transmissions.{IsOrdered, carrier, end_of, garbled, overlaps, pulses}
@@ -30,7 +30,6 @@ use Rattle.bus_dump.specs.DumpTexts.{changes, changes_at, dump_text, end_of_dump
 use Rattle.bus_dump.specs.Lanes.{Lane, is_sender, lanes, sends}
 use Rattle.bus_dump.specs.OnBus.{Bit as StringBit, bit_at, label_value, sync_bits, word_at}
 use Rattle.bus_dump.specs.Reading.{identifier, read_named}
-use Rattle.bus_dump.specs.SaveFiles.{nanoseconds, save_text, shown, zoom}
 use Rattle.bus_dump.specs.Scenes.{Scene, scene_at}
 use Rattle.bus_dump.specs.Seen.{holds, number_of}
 use Rattle.bus_dump.specs.Signals.{Signal, Carrier, Overlap, Sync, Breach, Word, Pulse, Garbled, Label, Message, Interval, Synchronization}
@@ -114,27 +113,6 @@ pub record Changes (signals : List Signal) (scene : ℕ → Scene) (t : ℕ) : T
 -- At each bit time either nothing changes, or a stamp is put and what changes.
 abbrev pub NothingIsIdle : Type 0
 NothingIsIdle = (signals : List Signal) (scene : ℕ → Scene) (t : ℕ) → StaysSame signals scene t ⊎ Changes signals scene t
-
--- A text is empty, or ends with a line feed.
-abbrev pub EndsLine : List ℕ → Type 0
-EndsLine text = (text ≡ []) ⊎ ((line : List ℕ) × (text ≡ line ++ 10 ∷ []))
-
--- A signal is shown by a line of a text.
-pub record Shows (signal : Signal) (text : List ℕ) : Type 0 where
-  pub front : List ℕ
-  pub behind : List ℕ
-  pub parts : text ≡ front ++ shown signal ++ behind
-  pub line : EndsLine front
-
--- The save file shows each signal of each dump.
-abbrev pub AllAreShown : Type 0
-AllAreShown =
-    (dump : Dump) (table : Table) (trace : Recording) (breach : Option ℕ) (signal : Signal)
-    → In signal (signals dump (lanes table trace.list)) → Shows signal (save_text table trace breach)
-
--- The save file opens on the whole trace: 500 pixels of the viewer, of which 200 have so many nanoseconds, have room for all of it.
-abbrev pub OpensOnAll : Type 0
-OpensOnAll = (horizon : ℕ) → horizon ≤ horizon_limit → 2 * nanoseconds horizon ≤ 5 * 2 ^ zoom horizon
 
 -- ---- lanes
 -- How many of the lanes are of a terminal.

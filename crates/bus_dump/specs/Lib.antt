@@ -11,4 +11,5 @@ pub mod SaveFiles
 pub mod Reading
 pub mod Stamps
 pub mod Laws
+pub mod SaveLaws
 pub mod inside

@@ -3,3 +3,4 @@ pub mod Walks
 pub mod Watching
 pub mod Clocks
 pub mod Layouts
+pub mod Standing

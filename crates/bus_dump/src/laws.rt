@@ -1,10 +1,11 @@
 //! Laws of the definitions, each the contract of a function that does nothing.
-ghost use Rattle.bus_dump.specs.Laws.{AllAreShown, BitsArePulses, BreachIsTold, CarrierIsTold, ClearListsShowNone, DumpsAreRead};
+ghost use Rattle.bus_dump.specs.Laws.{BitsArePulses, BreachIsTold, CarrierIsTold, ClearListsShowNone, DumpsAreRead};
 ghost use Rattle.bus_dump.specs.Laws.{GarbledAreTold};
 ghost use Rattle.bus_dump.specs.Laws.{IdentifiersDiffer, LabelsAreTold, LanesAreTerminals, LawfulIsSingle, MessagesAreTold};
-ghost use Rattle.bus_dump.specs.Laws.{NamesAreDeclared, NothingIsIdle, NothingIsLost, NothingWrittenIsLost, OpensOnAll, OverlapsAreTold};
+ghost use Rattle.bus_dump.specs.Laws.{NamesAreDeclared, NothingIsIdle, NothingIsLost, NothingWrittenIsLost, OverlapsAreTold};
 ghost use Rattle.bus_dump.specs.Laws.{OverlapsGarble, PulsesAreTold, StampsAreTold, StartsAreSeen, StartsAreTold, SyncIsTold};
 ghost use Rattle.bus_dump.specs.Laws.{TimersAreTold, WordIsTold, WrittenDumpsAreRead, WrittenStampsAreTold};
+ghost use Rattle.bus_dump.specs.SaveLaws.{AllAreShown, BreachIsFirst, BreachIsOpen, FewAreOpen, FirstAreOpen, OpensOnAll};
 
 use crate::comment::holds_no_feed;
 use bus_regime::verdict;
@@ -117,9 +118,18 @@ pub fn all_are_shown()
     ensures { AllAreShown }
 {}
 
-/// The viewer that opens a save file shows the whole trace at first.
+/// The viewer that opens a save file beside the dump of the same window shows the whole dump at first.
 pub fn save_files_open_on_all()
     ensures { OpensOnAll }
+{}
+
+/// Which groups of lanes are open when the viewer opens a save file. Where the window holds the first breach, the lane of the terminal that
+/// this names is, and of more than two lanes it stands first. Where the window holds none, the first eight are. More than eight never are.
+pub fn save_files_open_on_breaches()
+    ensures breach { BreachIsOpen }
+    ensures before { BreachIsFirst }
+    ensures first { FirstAreOpen }
+    ensures few { FewAreOpen }
 {}
 
 /// Two traces on a table, of which no two transmissions overlap and all have ended by the horizon, have the same dump of all of them with

@@ -14,6 +14,7 @@
 #![tactic(auto)]
 
 mod binary;
+mod breach;
 mod change;
 mod clock;
 mod clocks;
@@ -29,6 +30,7 @@ pub mod laws;
 mod layout;
 mod live;
 mod look;
+mod opening;
 mod save_file;
 mod scene;
 mod shown;
@@ -39,6 +41,7 @@ mod walk;
 mod watch;
 mod writing;
 
+pub use breach::FirstBreach;
 pub use doubling::doubled;
 pub use dump::Dump;
 pub use lane::Lane;

@@ -1,5 +1,5 @@
 //! The text of a save file.
-ghost use Rattle.std.specs.Prelude.{◌≡◌, ◌<◌, ◌≤◌, [], drop, IfSome, if◌then◌else◌};
+ghost use Rattle.std.specs.Prelude.{◌≤◌, ◌<◌, not, [], drop, IfSome, if◌then◌else◌};
 ghost use Rattle.std.specs.List.{flat_map};
 ghost use Rattle.std.specs.Option.{option_map_or};
 ghost use Rattle.bus_outer.specs.Sinks.{WritesText};
@@ -8,20 +8,18 @@ ghost use Rattle.bus_strings.specs.Limits.{horizon_limit};
 ghost use Rattle.bus_table.specs.Fits.{sender_of};
 ghost use Rattle.bus_dump.specs.DumpTexts.{bits_text};
 ghost use Rattle.bus_dump.specs.SaveFiles as texts;
+ghost use Rattle.bus_dump.specs.inside.Standing.{lane_within};
 
+use crate::breach::FirstBreach;
 use crate::declaration::{bits_of, put_name};
 use crate::lane::Lane;
 use crate::lanes::lanes_of;
+use crate::opening::{are_open, is_open, put_opening, shown_breach, stands, telling_breach};
 use crate::signal::Signal;
+use crate::writing::end_in;
 use bus_outer::{Sink, TextBuffer, WriteFault};
 use bus_table::{Mode, Sender, Table, sender_of};
-use bus_trace::Trace;
-
-/// The most lanes of which all signals are shown at first.
-const OPEN_LANES: usize = 2;
-
-/// The nanoseconds of a bit time.
-const NANOSECONDS: u64 = 500;
+use bus_trace::{Trace, Window};
 
 /// Which bits a signal has, where they are several, with no space before them.
 fn put_bits<K: Sink>(text: &mut TextBuffer, sink: &mut K, signal: Signal)
@@ -191,81 +189,95 @@ fn show_lane<K: Sink>(text: &mut TextBuffer, sink: &mut K, folded: bool, table: 
     end_group(text, sink, folded);
 }
 
-/// The signals of each lane.
-fn show_lanes<K: Sink>(
+/// A lane, with its group open or folded.
+fn show_among<K: Sink>(
     text: &mut TextBuffer,
     sink: &mut K,
-    folded: bool,
+    breach: Option<FirstBreach>,
+    table: &Table,
+    lanes: &[Lane],
+    lane: Lane,
+)
+    ensures { Adds K.held K.faults sink.old sink.new text.old text.new (texts.lane_among breach table.now lanes.now lane) }
+{
+    let folded = !is_open(breach, lanes, lane);
+    show_lane(text, sink, folded, table, lane);
+}
+
+/// A lane, where it stands in this part.
+fn show_within<K: Sink>(
+    text: &mut TextBuffer,
+    sink: &mut K,
+    first: bool,
+    breach: Option<FirstBreach>,
+    table: &Table,
+    lanes: &[Lane],
+    lane: Lane,
+)
+    ensures { Adds K.held K.faults sink.old sink.new text.old text.new (lane_within first breach table.now lanes.now lane) }
+{
+    if stands(first, breach, lane) {
+        show_among(text, sink, breach, table, lanes, lane);
+    }
+}
+
+/// The lanes that stand in this part.
+fn show_part<K: Sink>(
+    text: &mut TextBuffer,
+    sink: &mut K,
+    first: bool,
+    breach: Option<FirstBreach>,
     table: &Table,
     lanes: &[Lane],
 )
-    ensures { Adds K.held K.faults sink.old sink.new text.old text.new (flat_map (texts.lane_shown folded table.now) lanes.now) }
+    ensures { Adds K.held K.faults sink.old sink.new text.old text.new (flat_map (lane_within first breach table.now lanes.now) lanes.now) }
 {
     for lane in lanes {
-        show_lane(text, sink, folded, table, *lane);
+        show_within(text, sink, first, breach, table, lanes, *lane);
     }
 }
 
 /// All signals.
-fn show_all<K: Sink>(text: &mut TextBuffer, sink: &mut K, table: &Table, lanes: &[Lane])
-    ensures { Adds K.held K.faults sink.old sink.new text.old text.new (texts.all_shown table.now lanes.now) }
+fn show_all<K: Sink>(
+    text: &mut TextBuffer,
+    sink: &mut K,
+    breach: Option<FirstBreach>,
+    table: &Table,
+    lanes: &[Lane],
+)
+    ensures { Adds K.held K.faults sink.old sink.new text.old text.new (texts.all_shown breach table.now lanes.now) }
 {
-    let folded = lanes.len() > OPEN_LANES;
+    let folded = !are_open(breach, lanes);
     put_bus(text, sink);
     put_label_group(text, sink, folded, lanes);
-    show_lanes(text, sink, folded, table, lanes);
+    show_part(text, sink, true, breach, table, lanes);
+    show_part(text, sink, false, breach, table, lanes);
 }
 
-/// The marker of the viewer.
-fn put_marker<K: Sink>(text: &mut TextBuffer, sink: &mut K, breach: Option<u64>)
-    requires { IfSome breach (λ t. t < horizon_limit) }
-    ensures { Adds K.held K.faults sink.old sink.new text.old text.new (texts.marker_text breach) }
-{
-    match breach {
-        Some(t) => text.put_number(sink, NANOSECONDS * t),
-        None => text.put(sink, b"-1"),
-    }
-}
-
-/// How far the viewer zooms out.
-fn zoom(horizon: u64) -> u32
-    requires { horizon ≤ horizon_limit }
-    ensures { result ≡ texts.zoom horizon }
-{
-    u64::BITS - (200 * horizon).leading_zeros()
-}
-
-/// The first line.
-fn put_opening<K: Sink>(text: &mut TextBuffer, sink: &mut K, horizon: u64, breach: Option<u64>)
-    requires horizon { horizon ≤ horizon_limit }
-    requires breach { IfSome breach (λ t. t < horizon_limit) }
-    ensures { Adds K.held K.faults sink.old sink.new text.old text.new (texts.opening horizon breach) }
-{
-    text.put(sink, b"*-");
-    text.put_number(sink, zoom(horizon));
-    text.put_byte(sink, b' ');
-    put_marker(text, sink, breach);
-    text.put_byte(sink, b'\n');
-}
-
-/// Writes the save file of GTKWave that shows each signal of the dumps of a trace on a table: the bus, the labels of all lanes, then each
-/// lane, with what is garbled and where a sender may start in a colour of its own. The viewer leaves out those that a dump doesn't have.
-/// It opens zoomed out to the whole trace, with its marker at the moment of the first breach, where there is one; labels and lanes are
-/// groups, which are folded where there are more than two lanes. It takes no memory.
+/// Writes the save file of GTKWave that shows each signal of the dumps of a window of a trace on a table: the bus, the labels of all lanes,
+/// then each lane, with what is garbled and where a sender may start in a colour of its own. The viewer leaves out those that a dump
+/// doesn't have. It opens zoomed out to the whole window, with its marker at the moment of the first breach, where the window holds that.
+/// Labels and lanes are groups. Of more than two lanes, that of the terminal that the breach names stands first, and it alone is open;
+/// without such a breach, and of no more than two, the first eight are. It takes no memory.
 ///
 /// A breach is below 1,099,511,627,776. At `WriteFault` the sink has taken a front of the text, and its count of faults rose.
 pub fn write_save_file<K: Sink>(
+    window: &Window,
+    breach: Option<FirstBreach>,
     table: &Table,
     trace: &Trace,
-    breach: Option<u64>,
     sink: &mut K,
 ) -> Result<(), WriteFault>
-    requires { IfSome breach (λ t. t < horizon_limit) }
-    ensures { WritesText K.held K.faults sink.old sink.new result (texts.save_text table.now trace.now breach) }
+    requires { IfSome breach (λ b. b.moment < horizon_limit) }
+    ensures { WritesText K.held K.faults sink.old sink.new result (texts.save_text window.now breach table.now trace.now) }
 {
-    let lanes = lanes_of(table, trace.list());
+    let all = lanes_of(table, trace.list());
+    let lanes = all.as_slice();
+    let seen = shown_breach(window, breach);
+    let telling = telling_breach(lanes, seen);
+    let end = end_in(window, trace.horizon());
     let mut text = TextBuffer::new();
-    put_opening(&mut text, sink, trace.horizon(), breach);
-    show_all(&mut text, sink, table, lanes.as_slice());
+    put_opening(&mut text, sink, window.from(), end, seen);
+    show_all(&mut text, sink, telling, table, lanes);
     text.finish(sink)
 }

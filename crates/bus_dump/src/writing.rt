@@ -112,7 +112,7 @@ fn put_last<K: Sink>(text: &mut TextBuffer, sink: &mut K, from: u64, end: u64)
 }
 
 /// The end of the dump of a window of a trace with this horizon.
-fn end_in(window: &Window, horizon: u64) -> u64
+pub(crate) fn end_in(window: &Window, horizon: u64) -> u64
     ensures { result ≡ end_of_dump window.now horizon }
 {
     window.to().min(horizon).max(window.from())

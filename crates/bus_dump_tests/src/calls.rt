@@ -1,5 +1,5 @@
 //! What every test uses: a table, and what is written of a trace in memory.
-use bus_dump::{Dump, doubled, write_dump, write_save_file};
+use bus_dump::{Dump, FirstBreach, doubled, write_dump, write_save_file};
 use bus_outer::{MemorySink, MemorySource};
 use bus_regime::verdict;
 use bus_strings::limits::HORIZON_LIMIT;
@@ -27,8 +27,10 @@ pub(crate) enum Text {
     Dump(Dump),
     /// That of a window from a moment to below another, of a trace whose first breach is at the last moment.
     Window(Dump, u64, u64, u64),
-    /// The save file of one whose first breach is at this moment.
-    SaveFile(Option<u64>),
+    /// The save file of one whose first breach is this.
+    SaveFile(Option<FirstBreach>),
+    /// That of a window from a moment to below another.
+    SavedWindow(u64, u64, Option<FirstBreach>),
 }
 
 /// A trace of its text.
@@ -64,8 +66,16 @@ pub(crate) fn written(
             write_dump(dump, &window, breach, &verdict, &table, &trace, &mut sink)
         }
         Text::SaveFile(breach) => {
-            let breach = breach.filter(|moment| *moment < HORIZON_LIMIT);
-            write_save_file(&table, &trace, breach, &mut sink)
+            let window = Window::whole(trace.horizon());
+            let breach = breach.filter(|it| it.moment < HORIZON_LIMIT);
+            write_save_file(&window, breach, &table, &trace, &mut sink)
+        }
+        Text::SavedWindow(from, to, breach) => {
+            let Some(window) = Window::new(from, to) else {
+                return Err(Fail::new("no window"));
+            };
+            let breach = breach.filter(|it| it.moment < HORIZON_LIMIT);
+            write_save_file(&window, breach, &table, &trace, &mut sink)
         }
     };
     if answer.is_err() {

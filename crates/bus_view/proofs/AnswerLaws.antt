@@ -23,7 +23,7 @@ single_late (Some entry) = omega arith
 
 pub traced_late : (view : View) (traced : Traced) → 2 ≤ stage_of (kind_of (traced_answer view traced))
 traced_late (Dump dump window) traced = single_late (doubled traced.trace.list)
-traced_late SaveFile traced = omega arith
+traced_late (SaveFile window) traced = omega arith
 traced_late (Painted picture window) traced = omega arith
 traced_late (Judged picture bounds window) traced = omega arith
 
@@ -54,7 +54,7 @@ single_cause laws first second traced (Some entry) h e =
 answer_cause : CauseLaws → (view : View) (first second : List ℕ) (traced : Traced) → traced_due {R = Doubled} first second ≡ Ok traced
     → RefusesTexts Causes (traced_answer view traced) first second
 answer_cause laws (Dump dump window) first second traced h = single_cause laws first second traced (doubled traced.trace.list) h refl
-answer_cause laws SaveFile first second traced h = tt
+answer_cause laws (SaveFile window) first second traced h = tt
 answer_cause laws (Painted picture window) first second traced h = tt
 answer_cause laws (Judged picture bounds window) first second traced h = tt
 

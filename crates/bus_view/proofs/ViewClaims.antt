@@ -45,7 +45,7 @@ use Rattle.bus_view.specs.Refusals.{Doubled, Outcome, ends_of, status_of}
 abbrev IsSound : View → Type 0
 IsSound (Dump dump window) = IfSome window IsWindow
 IsSound (Painted picture window) = IfSome window IsWindow
-IsSound SaveFile = Unit {0}
+IsSound (SaveFile window) = IfSome window IsWindow
 IsSound (Judged picture bounds window) = AreNear bounds × IfSome window IsWindow
 
 -- a command that draws, with the words of its window
@@ -74,7 +74,7 @@ view_asked : (view : View) (first second : List ℕ) (further : List (List ℕ))
 view_asked (Dump Vcd window) first second further w s = window_asked (codes "vcd") window first second further refl w s
 view_asked (Dump Wires window) first second further w s = window_asked (codes "wires") window first second further refl w s
 view_asked (Dump Timers window) first second further w s = window_asked (codes "timers") window first second further refl w s
-view_asked SaveFile first second further w s = ap (λ f. view_of (codes "gtkw" ∷ first ∷ second ∷ f)) w
+view_asked (SaveFile window) first second further w s = window_asked (codes "gtkw") window first second further refl w s
 view_asked (Painted TimeLine window) first second further w s = window_asked (codes "svg") window first second further refl w s
 view_asked (Painted Cycles window) first second further w s = window_asked (codes "cycles") window first second further refl w s
 view_asked (Judged TimeLine bounds window) first second further w s = bounds_asked (codes "svg") bounds window first second further s.0 w s.1
@@ -85,7 +85,7 @@ not_page : (view : View) → bytes_eq (view_word view) (codes "page") ≡ false
 not_page (Dump Vcd window) = refl
 not_page (Dump Wires window) = refl
 not_page (Dump Timers window) = refl
-not_page SaveFile = refl
+not_page (SaveFile window) = refl
 not_page (Painted TimeLine window) = refl
 not_page (Painted Cycles window) = refl
 not_page (Judged TimeLine bounds window) = refl
@@ -216,7 +216,7 @@ itself_claim call outcome about acts h =
 pub keeps : DrawLaws → (call : Call) (outcome : Outcome) → Acts call outcome → Promises call (status_of outcome)
 keeps laws call outcome acts = record {
   draw = λ dump window table trace s h. draw_claim laws call outcome dump window table trace s acts h;
-  save = λ table trace h. shown laws SaveFile call outcome table trace acts h tt refl;
+  save = λ window table trace s h. shown laws (SaveFile window) call outcome table trace acts h s refl;
   paint = λ picture window table trace s h. paint_claim laws call outcome picture window table trace s acts h;
   judge = λ picture bounds window table trace n s h. judge_claim laws call outcome picture bounds window table trace n s acts h;
   page = λ asked text h. page_claim call outcome asked text acts h;

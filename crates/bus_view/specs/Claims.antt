@@ -38,7 +38,7 @@ abbrev pub view_word : View → List ℕ
 view_word (Dump Vcd window) = codes "vcd"
 view_word (Dump Wires window) = codes "wires"
 view_word (Dump Timers window) = codes "timers"
-view_word SaveFile = codes "gtkw"
+view_word (SaveFile window) = codes "gtkw"
 view_word (Painted picture window) = picture_word picture
 view_word (Judged picture bounds window) = picture_word picture
 
@@ -70,7 +70,7 @@ pub record AreOfBounds (bounds : Bounds) (window : Option Window) (words : List 
 -- The words behind those of both texts.
 abbrev pub AreFurther : View → List (List ℕ) → Type 0
 AreFurther (Dump dump window) words = AreForWindow window words
-AreFurther SaveFile words = words ≡ []
+AreFurther (SaveFile window) words = AreForWindow window words
 AreFurther (Painted picture window) words = AreForWindow window words
 AreFurther (Judged picture bounds window) words = AreOfBounds bounds window words
 
@@ -127,7 +127,7 @@ pub record IsPageOf (asked : Option Bounds) (text : List ℕ) (call : Call) : Ty
 -- What a call promises whose texts are right and in which nothing outside fails; each view answers so, or memory was refused,
 -- of which `itself` takes none:
 --   draw    `vcd`, `wires` and `timers`, and all three with a window: the dump, or that an entry is doubled
---   save    `gtkw`: the save file, with its marker at the first breach
+--   save    `gtkw`, and with a window: the save file, with the first breach where the window holds its moment
 --   paint   `svg` and `cycles`, and both with a window: the picture
 --   judge   `svg` and `cycles` with bounds, and both with a window too: the picture with what is found
 --   page    `page` of any text, and with bounds: its page; the status is Done where the text gives a table that is accepted, else Refused
@@ -136,8 +136,9 @@ pub record Promises (call : Call) (status : Status) : Type 0 where
   pub draw : (dump : AnyDump) (window : Option Window) (table : Table) (trace : Recording) → IfSome window IsWindow
       → IsViewOf (Dump dump window) table trace call
       → GivesDump dump (window_or_whole window trace) table trace call status
-  pub save : (table : Table) (trace : Recording) → IsViewOf SaveFile table trace call
-      → Answers Done (λ text. text ≡ saved table trace) call status
+  pub save : (window : Option Window) (table : Table) (trace : Recording) → IfSome window IsWindow
+      → IsViewOf (SaveFile window) table trace call
+      → Answers Done (λ text. text ≡ saved (window_or_whole window trace) table trace) call status
   pub paint : (picture : Picture) (window : Option Window) (table : Table) (trace : Recording) → IfSome window IsWindow
       → IsViewOf (Painted picture window) table trace call
       → Answers Done (λ text. text ≡ painting picture (window_or_whole window trace) table trace) call status

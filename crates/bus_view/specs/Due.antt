@@ -17,6 +17,7 @@ use Rattle.bus_audit.specs.declared.answer.AuditAnswer.TheVariants.{Lawful, Brea
 use Rattle.bus_dump.specs.declared.dump.Dump.{Dump as AnyDump}
 use Rattle.bus_dump.specs.Doubled.{doubled}
 use Rattle.bus_dump.specs.DumpTexts.{dump_text}
+use Rattle.bus_dump.specs.declared.breach.FirstBreach.{FirstBreach}
 use Rattle.bus_dump.specs.SaveFiles.{save_text}
 use Rattle.bus_shapes.specs.declared.told.Told.{Told}
 use Rattle.bus_shapes.specs.declared.told.Told.TheVariants.{Audit, Findings}
@@ -40,7 +41,7 @@ single_outcome (Some entry) = refuse entry
 -- What is answered to a table and a trace, or why nothing is: only of a dump it matters whether an entry is doubled.
 abbrev pub view_answer : View → Table → Recording → Outcome
 view_answer (Dump dump window) table trace = single_outcome (doubled trace.list)
-view_answer SaveFile table trace = Done
+view_answer (SaveFile window) table trace = Done
 view_answer (Painted picture window) table trace = Done
 view_answer (Judged picture bounds window) table trace = Done
 
@@ -81,9 +82,18 @@ pub record IsJudging (picture : Picture) (bounds : Bounds) (window : Window) (ta
   pub found_is : found.items ≡ judgements bounds table trace.list
   pub text_is : text ≡ painted picture window (verdict_of table) (Findings bounds found) table trace
 
--- The save file of a trace on a table, with its marker at the first breach.
-abbrev pub saved : Table → Recording → List ℕ
-saved table trace = save_text table trace (first_breach table trace)
+-- A breach with the terminal that it names, where an audit found one.
+abbrev pub breach_of : AuditAnswer → Option FirstBreach
+breach_of (Lawful collided) = None
+breach_of (Breach moment terminal kind) = Some (record { moment = moment; terminal = terminal })
+
+-- The first breach that an audit finds in a trace, where it finds one, with the terminal that it names.
+abbrev pub named_breach : Table → Recording → Option FirstBreach
+named_breach table trace = breach_of (answer_of table trace)
+
+-- The save file of a window of a trace on a table, with its first breach.
+abbrev pub saved : Window → Table → Recording → List ℕ
+saved window table trace = save_text window (named_breach table trace) table trace
 
 -- The window that is asked for, or all of the trace.
 abbrev pub window_or_whole : Option Window → Recording → Window
@@ -92,7 +102,7 @@ window_or_whole window trace = unwrap_or window (whole trace.horizon)
 -- The text of a view of a trace on a table.
 abbrev pub IsOfView : View → Table → Recording → List ℕ → Type 0
 IsOfView (Dump dump window) table trace text = text ≡ drawing dump (window_or_whole window trace) table trace
-IsOfView SaveFile table trace text = text ≡ saved table trace
+IsOfView (SaveFile window) table trace text = text ≡ saved (window_or_whole window trace) table trace
 IsOfView (Painted picture window) table trace text = text ≡ painting picture (window_or_whole window trace) table trace
 IsOfView (Judged picture bounds window) table trace text = IsJudging picture bounds (window_or_whole window trace) table trace text
 

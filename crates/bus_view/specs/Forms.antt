@@ -52,14 +52,18 @@ abbrev pub picture_view : List ℕ → Option Window → Option View
 picture_view command window = option_map (λ picture. Painted picture window) (picture_of command)
 
 -- The dump or the picture of a command, of all of a trace or of a window of it.
+abbrev pub dumped_or_painted : List ℕ → Option Window → Option View
+dumped_or_painted command window = option_map_or (λ dump. Some (Dump dump window)) (dump_of command) (picture_view command window)
+
+-- The dump, the save file or the picture of a command, of all of a trace or of a window of it.
 abbrev pub drawn : List ℕ → Option Window → Option View
-drawn command window = option_map_or (λ dump. Some (Dump dump window)) (dump_of command) (picture_view command window)
+drawn command window = if bytes_eq command (codes "gtkw") then Some (SaveFile window) else dumped_or_painted command window
 
 -- `vcd T R`, `wires T R`, `timers T R`, `gtkw T R`, `svg T R`, `cycles T R`
 abbrev pub three_words : List ℕ → Option View
-three_words command = if bytes_eq command (codes "gtkw") then Some SaveFile else drawn command None
+three_words command = drawn command None
 
--- `vcd T R FROM TO`, `wires T R FROM TO`, `timers T R FROM TO`, `svg T R FROM TO`, `cycles T R FROM TO`
+-- `vcd T R FROM TO`, `wires T R FROM TO`, `timers T R FROM TO`, `gtkw T R FROM TO`, `svg T R FROM TO`, `cycles T R FROM TO`
 abbrev pub five_words : List ℕ → List ℕ → List ℕ → Option View
 five_words command from to = option_and_then (λ window. drawn command (Some window)) (window_of from to)
 
@@ -117,7 +121,7 @@ form_of (command ∷ table ∷ further) = asked_by command (command ∷ table �
 -- The delay of the bounds of a view, where it has bounds, is within its limit.
 abbrev pub IsNear : View → Type 0
 IsNear (Dump dump window) = Unit {0}
-IsNear SaveFile = Unit {0}
+IsNear (SaveFile window) = Unit {0}
 IsNear (Painted picture window) = Unit {0}
 IsNear (Judged picture bounds window) = bounds.delay ≤ most_near_delay
 

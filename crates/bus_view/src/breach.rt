@@ -5,6 +5,7 @@ ghost use Rattle.bus_trace.specs.Traces.{IsTrace};
 ghost use Rattle.bus_view.specs.Due as due;
 
 use bus_audit::{AuditAnswer, audit};
+use bus_dump::FirstBreach;
 use bus_table::Table;
 use bus_trace::Trace;
 use std::alloc::{AllocError, Global};
@@ -31,6 +32,37 @@ pub(crate) fn first_breach(
 {
     match audit(alloc, table, trace) {
         Ok(answer) => Ok(breach_moment(&answer)),
+        Err(error) => Err(error),
+    }
+}
+
+/// A breach with the terminal that it names, where an audit found one.
+fn breach_of(answer: &AuditAnswer) -> Option<FirstBreach>
+    ensures { result ≡ due.breach_of answer.now }
+{
+    match *answer {
+        AuditAnswer::Lawful { .. } => None,
+        AuditAnswer::Breach {
+            moment,
+            terminal,
+            ..
+        } => Some(FirstBreach { moment, terminal }),
+    }
+}
+
+/// The first breach that an audit finds in a trace, where it finds one, with the terminal that it names. The error is that of the audit's
+/// memory.
+pub(crate) fn named_breach(
+    alloc: Global,
+    table: &Table,
+    trace: &Trace,
+) -> Result<Option<FirstBreach>, AllocError>
+    requires { IsTrace trace.now }
+    ensures value { IfOk result (λ breach. breach ≡ due.named_breach table.now trace.now) }
+    ensures below { IfOk result (λ breach. IfSome breach (λ b. b.moment < horizon_limit)) }
+{
+    match audit(alloc, table, trace) {
+        Ok(answer) => Ok(breach_of(&answer)),
         Err(error) => Err(error),
     }
 }

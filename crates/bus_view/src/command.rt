@@ -29,7 +29,7 @@ fn answer<K: Sink>(alloc: Global, view: View, table: &Table, trace: &Trace, out:
 {
     match view {
         View::Dump(dump, window) => draw(alloc, dump, window, table, trace, out),
-        View::SaveFile => save(alloc, table, trace, out),
+        View::SaveFile(window) => save(alloc, window, table, trace, out),
         View::Picture(picture, window) => paint(alloc, picture, window, table, trace, out),
         View::Judged(picture, bounds, window) => {
             paint_judged(alloc, picture, bounds, window, table, trace, out)

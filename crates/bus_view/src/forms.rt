@@ -25,8 +25,8 @@ pub enum Picture {
 pub enum View {
     /// `vcd T R`, `wires T R`, `timers T R`: this dump of it; with `FROM TO` behind them: of a window of it.
     Dump(Dump, Option<Window>),
-    /// `gtkw T R`: the save file with which GTKWave shows all signals of its dumps.
-    SaveFile,
+    /// `gtkw T R`: the save file with which GTKWave shows all signals of its dumps; `gtkw T R FROM TO`: of those of a window of it.
+    SaveFile(Option<Window>),
     /// `svg T R`, `cycles T R`: this picture of it; `svg T R FROM TO`, `cycles T R FROM TO`: of a window of it.
     Picture(Picture, Option<Window>),
     /// `svg T R D J P`, `cycles T R D J P`: this picture of it with what is found, as in a recording of a bus within D and J in bit times
@@ -82,8 +82,8 @@ fn picture_of(command: &str) -> Option<Picture>
 }
 
 /// The dump or the picture of a command, of all of a trace or of a window of it.
-fn drawn(command: &str, window: Option<Window>) -> Option<View>
-    ensures value { result ≡ forms.drawn command.now window }
+fn dumped_or_painted(command: &str, window: Option<Window>) -> Option<View>
+    ensures value { result ≡ forms.dumped_or_painted command.now window }
     ensures near { IfSome result IsNear }
 {
     match dump_of(command) {
@@ -92,6 +92,18 @@ fn drawn(command: &str, window: Option<Window>) -> Option<View>
             let picture = picture_of(command)?;
             Some(View::Picture(picture, window))
         }
+    }
+}
+
+/// The dump, the save file or the picture of a command, of all of a trace or of a window of it.
+fn drawn(command: &str, window: Option<Window>) -> Option<View>
+    ensures value { result ≡ forms.drawn command.now window }
+    ensures near { IfSome result IsNear }
+{
+    if command == "gtkw" {
+        Some(View::SaveFile(window))
+    } else {
+        dumped_or_painted(command, window)
     }
 }
 
@@ -110,11 +122,7 @@ fn three_words(command: &str) -> Option<View>
     ensures value { result ≡ forms.three_words command.now }
     ensures near { IfSome result IsNear }
 {
-    if command == "gtkw" {
-        Some(View::SaveFile)
-    } else {
-        drawn(command, None)
-    }
+    drawn(command, None)
 }
 
 /// The view that five words ask for of which these are the first and the last two.
@@ -172,7 +180,7 @@ fn on_trace(view: Option<View>) -> Option<Form>
 }
 
 /// The view that these words ask for: `vcd T R`, `wires T R`, `timers T R`, `gtkw T R`, `svg T R`, `cycles T R`, `svg T R D J P`,
-/// `cycles T R D J P`, and all of these but `gtkw` with a window behind them, `FROM TO`.
+/// `cycles T R D J P`, and all of these with a window behind them, `FROM TO`.
 fn view_of(words: &[String]) -> Option<View>
     ensures value { result ≡ forms.view_of (words_of words.now) }
     ensures near { IfSome result IsNear }

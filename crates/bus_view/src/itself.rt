@@ -20,7 +20,7 @@ writes is proved.
                                     terminal that sends
   bus629-view wires T R [FROM TO]   its signals of one bit alone
   bus629-view timers T R [FROM TO]  the dump with the timers of each sender, and where it may start
-  bus629-view gtkw T R              the save file with which GTKWave shows all signals of any of
+  bus629-view gtkw T R [FROM TO]    the save file with which GTKWave shows all signals of any of
                                     these dumps
   bus629-view svg T R [FROM TO]     the trace as a time line, with a lane for each terminal
   bus629-view cycles T R [FROM TO]  a row for each cycle, for long traces

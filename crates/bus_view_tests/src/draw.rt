@@ -97,3 +97,39 @@ fn a_save_file_shows_the_timers_of_senders(rt: HostRuntime) -> Result<(), Fail> 
     assert!(rt; !contains(ran.out.bytes(), "t7_may"));
     Ok(())
 }
+
+/// Three terminals that aren't senders of the table, of which the last by number is the first to send.
+const STRANGERS: &str =
+    "TRACE 1\nHORIZON 150\nTX 20 9\nWS L0A111\nTX 60 8\nWS L0A111\nTX 100 7\nWS L0A111\nEND\n";
+
+/// The terminal of the first breach comes first, and is open alone; in a window without that breach all five lanes are open.
+#[test]
+fn a_save_file_opens_the_terminal_of_the_breach(rt: HostRuntime) -> Result<(), Fail> {
+    let ran = run_on(&rt, &["gtkw", "T", "R"], TABLE, STRANGERS)?;
+    let parts = [
+        "*-15 10000\n@200\n-bus\n",
+        "@1401200\n-group_end\n@800200\n-T9\n@28\nbus.t9_pulse\n",
+        "@c00200\n-T1 TG 20\n",
+    ];
+    assert!(rt; shows(&ran, &parts));
+    let ran = run_on(&rt, &["gtkw", "T", "R", "0", "21"], TABLE, STRANGERS)?;
+    assert!(rt;
+        shows(
+            &ran,
+            &[
+                "*-13 10000\n@200\n-bus\n",
+                "@800200\n-T9\n",
+                "@c00200\n-T8\n"
+            ]
+        )
+    );
+    let ran = run_on(&rt, &["gtkw", "T", "R", "21", "1000"], TABLE, STRANGERS)?;
+    let parts = [
+        "*-15 -1\n[timestart] 10500\n@200\n-bus\n",
+        "@1000200\n-group_end\n@800200\n-T1 TG 20\n",
+        "@800200\n-T9\n",
+    ];
+    assert!(rt; shows(&ran, &parts));
+    assert!(rt; !contains(ran.out.bytes(), "@c00200"));
+    Ok(())
+}

@@ -26,7 +26,7 @@ fn wrong_words_are_refused(rt: HostRuntime) -> Result<(), Fail> {
         &["vcd", "T", "R", "0"],
         &["svg", "T", "R", "5", "5"],
         &["vcd", "T", "R", "5", "x"],
-        &["gtkw", "T", "R", "0", "9"],
+        &["gtkw", "T", "R", "9", "9"],
         &["cycles", "T", "R", "0", "09"],
         &["run", "T", "R"],
     ];

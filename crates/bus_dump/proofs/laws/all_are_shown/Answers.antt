@@ -1,4 +1,4 @@
-use Rattle.bus_dump.proofs.SaveLemmas as lemmas
+use Rattle.bus_dump.proofs.OpenLemmas as lemmas
 use Rattle.bus_dump.proofs.laws.all_are_shown.Goals as goal
 
 pub returns : goal.returns

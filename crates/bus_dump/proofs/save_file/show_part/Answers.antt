@@ -1,0 +1,14 @@
+use Rattle.std.proofs.Common.{List, ℕ, false, sym, subst}
+use Rattle.bus_strings.proofs.ListLaws.{flat_map-next}
+use Rattle.bus_outer.specs.Texts.{Adds}
+use Rattle.bus_outer.proofs.TextLaws.{◌▸◌}
+use Rattle.bus_dump.specs.Lanes.{lane_with}
+use Rattle.bus_dump.specs.inside.Standing.{lane_within}
+use Rattle.bus_dump.proofs.save_file.show_part.Goals as goal
+
+pub loop-lane-preserved : goal.loop-lane-preserved
+loop-lane-preserved g c =
+    subst (λ (t : List ℕ). Adds g.K.Sink.held g.K.Sink.faults c.args.sink.now c.show_within.new.sink c.args.text.now c.show_within.new.text t)
+    (sym (flat_map-next (lane_within c.args.first c.args.breach c.args.table.now c.args.lanes.now) c.args.lanes.now c.loop-lane.lane-index
+    (lane_with false 0) c.loop-lane-test.true))
+    (c.loop-lane.invariant ▸ c.show_within.ensures)
