@@ -86,8 +86,20 @@ abbrev pub tolerance_line : Mode → Option ℕ → List ℕ
 tolerance_line mode None = codes "The tolerance has no end: one sender alone keeps its times, however long the cable is.\n"
 tolerance_line mode (Some delay) = delay_line mode delay
 
+-- What is said before its senders: that it is accepted, its cycles, its spare and its load.
+abbrev pub before_senders : Table → (least most : ℕ) → List ℕ
+before_senders table least most =
+    accepted_line ++ cycles_line table.mode least most ++ spare_line table.mode (spare table least) ++ load_line (load table most)
+
+-- What is said behind them: its tolerance and its start.
+abbrev pub behind_senders : Table → Option ℕ → List Advice → List ℕ
+behind_senders table tolerance advices = tolerance_line table.mode tolerance ++ start_text table.mode table advices
+
 -- All that is said of an accepted table, on which there are these advices.
 abbrev pub accepted_text : Table → (least most : ℕ) → Option ℕ → List Advice → List ℕ
 accepted_text table least most tolerance advices =
-    accepted_line ++ cycles_line table.mode least most ++ spare_line table.mode (spare table least) ++ load_line (load table most)
-    ++ senders_text table.mode table most ++ tolerance_line table.mode tolerance ++ start_text table.mode table advices
+    before_senders table least most ++ senders_text table.mode table most ++ behind_senders table tolerance advices
+
+-- The same without what is said of its senders one by one.
+abbrev pub summary_text : Table → (least most : ℕ) → Option ℕ → List Advice → List ℕ
+summary_text table least most tolerance advices = before_senders table least most ++ behind_senders table tolerance advices

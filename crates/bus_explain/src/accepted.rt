@@ -176,6 +176,43 @@ fn put_delay<K: Sink>(text: &mut TextBuffer, sink: &mut K, mode: Mode, delay: u6
     put_tolerance_meaning(text, sink, mode);
 }
 
+/// Puts what is said of an accepted table before its senders.
+fn put_before<K: Sink>(text: &mut TextBuffer, sink: &mut K, table: &Table, least: u64, most: u64)
+    requires { accepted.IsAcceptedWith table.now least most }
+    ensures { Adds K.held K.faults sink.old sink.new text.old text.new (accepted.before_senders table.now least most) }
+{
+    table_is_valid(table);
+    let mode = table.mode();
+    let spare = spare(table, least);
+    let load = load(table, most);
+    text.put(
+        sink,
+        b"The table is accepted: from a settled start, with no delay on the way and as many messages for each, ",
+    );
+    text.put(
+        sink,
+        b"its senders take turns and no two of them talk over each other.\n",
+    );
+    put_cycles(text, sink, mode, least, most);
+    put_spare(text, sink, mode, spare);
+    put_load(text, sink, load);
+}
+
+/// Puts what is said of it behind them.
+fn put_behind<K: Sink>(
+    text: &mut TextBuffer,
+    sink: &mut K,
+    table: &Table,
+    tolerance: Option<u64>,
+    advices: &[Advice],
+)
+    ensures { Adds K.held K.faults sink.old sink.new text.old text.new (accepted.behind_senders table.now tolerance advices.now) }
+{
+    let mode = table.mode();
+    put_tolerance(text, sink, mode, tolerance);
+    put_start(text, sink, mode, table, advices);
+}
+
 /// Writes what is said of an accepted table: `least` and `most` are its verdict's, `tolerance` is the greatest delay that it bears, in
 /// bit times, or None where it bears every delay, and `advices` are those on it. It takes no memory.
 pub fn write_accepted<K: Sink>(
@@ -189,24 +226,27 @@ pub fn write_accepted<K: Sink>(
     requires { accepted.IsAcceptedWith table.now least most }
     ensures { WritesText K.held K.faults sink.old sink.new result (accepted.accepted_text table.now least most tolerance advices.now) }
 {
-    table_is_valid(table);
-    let mode = table.mode();
-    let spare = spare(table, least);
-    let load = load(table, most);
     let mut text = TextBuffer::new();
-    text.put(
-        sink,
-        b"The table is accepted: from a settled start, with no delay on the way and as many messages for each, ",
-    );
-    text.put(
-        sink,
-        b"its senders take turns and no two of them talk over each other.\n",
-    );
-    put_cycles(&mut text, sink, mode, least, most);
-    put_spare(&mut text, sink, mode, spare);
-    put_load(&mut text, sink, load);
-    put_senders(&mut text, sink, mode, table, most);
-    put_tolerance(&mut text, sink, mode, tolerance);
-    put_start(&mut text, sink, mode, table, advices);
+    put_before(&mut text, sink, table, least, most);
+    put_senders(&mut text, sink, table.mode(), table, most);
+    put_behind(&mut text, sink, table, tolerance, advices);
+    text.finish(sink)
+}
+
+/// Writes the same without what is said of its senders one by one, for who shows these otherwise. It takes no memory.
+pub fn write_summary<K: Sink>(
+    table: &Table,
+    least: u64,
+    most: u64,
+    tolerance: Option<u64>,
+    advices: &[Advice],
+    sink: &mut K,
+) -> Result<(), WriteFault>
+    requires { accepted.IsAcceptedWith table.now least most }
+    ensures { WritesText K.held K.faults sink.old sink.new result (accepted.summary_text table.now least most tolerance advices.now) }
+{
+    let mut text = TextBuffer::new();
+    put_before(&mut text, sink, table, least, most);
+    put_behind(&mut text, sink, table, tolerance, advices);
     text.finish(sink)
 }

@@ -1,7 +1,7 @@
 //! What a verdict on a table means, and what to change, in plain sentences.
 //!
 //! - [`write_accepted`] tells an accepted table: its cycles, its spare, its load, its senders, its tolerance, and whether its order may
-//!   never come about.
+//!   never come about. [`write_summary`] leaves out what that says of each sender.
 //! - [`write_refused`] tells why the verdict refuses a table, by how many bit times, which advices there are, and the table that one plans.
 //! - [`write_whole`] tells why a table is wrong as a whole, and [`write_unread`] why a text is refused, and what may stand there.
 //! - [`put_time`] puts a time as all these sentences have it.
@@ -25,7 +25,7 @@ mod times;
 mod unread;
 mod wholes;
 
-pub use accepted::write_accepted;
+pub use accepted::{write_accepted, write_summary};
 pub use figures::{gap_bits, load, longest_bits, spare};
 pub use refused::write_refused;
 pub use times::put_time;

@@ -95,8 +95,8 @@ picture_text tolerance limits =
 -- What its bars mean.
 abbrev pub legend_text : List ℕ
 legend_text =
-    codes "<p>The bar of a rule is the greatest delay that it alone bears, and the line through them what the table bears. "
-    ++ codes "Of a rule that bears every delay the bar has the full width.</p>\n"
+    codes "<p>The bar of a rule is the greatest delay that it alone bears, and the line through them what the table bears; "
+    ++ codes "rules that bear no more stand out. Of a rule that bears every delay the bar has the full width.</p>\n"
 
 abbrev pub explained_text : Option ℕ → List Limit → List ℕ
 explained_text tolerance limits = legend_text ++ picture_text tolerance limits

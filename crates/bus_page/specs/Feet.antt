@@ -11,9 +11,13 @@ use Rattle.bus_page.specs.Heads.{figure, section_text}
 unfoldable pub premises_text : List ℕ
 premises_text =
     codes "<ul>\n<li>The rules are those of this project's profile of the bus: that it is the real bus is not proved.</li>\n"
-    ++ codes "<li>Cycle, spare and load are without delays, from the settled start, and with as many messages for each sender.</li>\n"
-    ++ codes "<li>The tolerance is of exact clocks; the level is of a bus within the bounds that stand with it.</li>\n"
-    ++ codes "<li>Each sender keeps to its SEND lines, and nobody else sends.</li>\n</ul>\n"
+    ++ codes "<li>Each sender keeps to its SEND lines, and nobody else sends.</li>\n"
+    ++ codes "<li>Cycle, spare, load, waits, and ages without delays rest on exact clocks, no delay, the settled start, and as many\n"
+    ++ codes "messages for each sender.</li>\n"
+    ++ codes "<li>The tolerance, and ages with delays up to it, rest on exact clocks and as many messages for each sender; in aperiodic\n"
+    ++ codes "mode on power-ups within the tolerance of one another, in periodic mode on the settled start.</li>\n"
+    ++ codes "<li>The level is of a bus within the bounds that stand with it, on which nothing else is heard, as long as messages are\n"
+    ++ codes "left. At a common start all are powered up within that delay of the first sender, with as many messages for each.</li>\n</ul>\n"
 
 -- The same under its heading.
 abbrev pub resting_text : List ℕ

@@ -86,8 +86,8 @@ aperiodic_words aperiodic_levels.Neither = codes "none: nothing is told"
 
 -- That of a periodic table.
 abbrev pub periodic_words : PeriodicLevel → List ℕ
-periodic_words periodic_levels.Turns = codes "turns: all take turns for ever"
-periodic_words periodic_levels.Leads = codes "leads: all take turns for ever behind the first sender"
+periodic_words periodic_levels.Turns = codes "turns: from a common start all take turns for ever"
+periodic_words periodic_levels.Leads = codes "leads: from a common start all take turns for ever behind the first sender"
 periodic_words periodic_levels.Neither = codes "none: nothing is told"
 
 -- The bounds that are asked for; where none are, oscillators are off by up to 50 millionths, and nothing else is inexact.
@@ -102,7 +102,7 @@ level_words Periodic bounds table = periodic_words (periodic_margins.level_of bo
 -- Within which bounds.
 abbrev pub level_name : Bounds → List ℕ
 level_name bounds =
-    codes "level, with " ++ decimal bounds.delay ++ codes " ns of delay, " ++ decimal bounds.jitter
+    codes "level, within " ++ decimal bounds.delay ++ codes " ns of delay, " ++ decimal bounds.jitter
     ++ codes " ns of jitter, and clocks " ++ decimal bounds.clocks ++ codes " millionths off"
 
 -- Each figure.

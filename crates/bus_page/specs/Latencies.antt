@@ -46,7 +46,7 @@ sender_rows table most tolerance sender = rows (row_text table most tolerance se
 -- The names of the columns.
 unfoldable pub columns_text : List ℕ
 columns_text =
-    codes "<table>\n<thead><tr><th>label</th><th>sent by</th><th>data words</th>\n"
+    codes "<table>\n<thead><tr><th>label, extension</th><th>sent by</th><th>data words</th>\n"
     ++ codes "<th>without delays</th><th>with delays up to the tolerance</th></tr></thead>\n"
     ++ codes "<tbody>\n"
 

@@ -56,17 +56,18 @@ abbrev pub bar_line : ℕ
 bar_line = 113
 
 -- Where bars begin that have the words of a rule before them, and how wide they are; and the same of bars with a terminal before them.
+-- Behind either there is room for the longest time, in the larger letters of print too.
 abbrev pub rules_left : ℕ
 rules_left = 2300
 
 abbrev pub rules_width : ℕ
-rules_width = 5900
+rules_width = 5500
 
 abbrev pub waits_left : ℕ
 waits_left = 800
 
 abbrev pub waits_width : ℕ
-waits_width = 7400
+waits_width = 7000
 
 -- How far before its bar words end, and behind it words begin.
 abbrev pub beside_bar : ℕ

@@ -17,7 +17,7 @@ use Rattle.bus_regime.specs.Verdicts.{verdict_of}
 use Rattle.bus_regime.specs.declared.table_verdict.TableVerdict.{TableVerdict}
 use Rattle.bus_regime.specs.declared.table_verdict.TableVerdict.TheVariants.{Accept, ShortCycle, SmallGap, NoSync}
 use Rattle.bus_advice.specs.Advices.{advices_of, periodic_table}
-use Rattle.bus_explain.specs.Accepted.{accepted_text}
+use Rattle.bus_explain.specs.Accepted.{summary_text}
 use Rattle.bus_explain.specs.Refused.{refused_text}
 use Rattle.bus_explain.specs.Unread.{unread_text}
 use Rattle.bus_explain.specs.Wholes.{whole_text}
@@ -58,7 +58,7 @@ limits_picture table =
 abbrev pub waits_picture : Table → (most : ℕ) → List ℕ
 waits_picture table most =
     section_text (codes "How long data wait: those that just miss a start, until their message is sent, without delays")
-    ++ waits_legend ++ waits_text most table.senders
+    ++ waits_legend most ++ waits_text most table.senders
 
 abbrev pub latencies_section : Table → (most : ℕ) → List ℕ
 latencies_section table most =
@@ -76,17 +76,17 @@ abbrev pub accepted_front : Option Bounds → Table → (least most : ℕ) → L
 accepted_front asked table least most =
     head_text (verdict_of table) ++ heading_text true ++ verdict_text (verdict_of table)
     ++ figures_text (bounds_of asked) table least most (tolerance_of table) ++ pictures_text asked table least most ++ resting_text
-    ++ section_text (codes "What it means") ++ codes "<pre>"
+    ++ section_text (codes "What it means") ++ codes "<pre class=\"said\">"
 
 -- What is said of a table of this mode where clocks are off: of an aperiodic one it is told whether it starts itself.
 abbrev pub drifting_in : Mode → Table → List ℕ
 drifting_in Aperiodic table = []
 drifting_in Periodic table = drifting_text table
 
--- Its sentences, those of `explain`.
+-- Its sentences: those of `explain`, but without what is said of each sender, which the pictures and the text show.
 abbrev pub accepted_sentences : Table → (least most : ℕ) → List ℕ
 accepted_sentences table least most =
-    accepted_text table least most (tolerance_of table) (advices_of table) ++ drifting_in table.mode table
+    summary_text table least most (tolerance_of table) (advices_of table) ++ drifting_in table.mode table
 
 -- What `margins` writes of a table of this mode.
 abbrev pub margins_text : Mode → Bounds → Table → List ℕ

@@ -119,8 +119,10 @@ mode_rooms Periodic bounds table = periodic_picture (periodic_margins.margins_of
 -- Under its heading, with what its bars mean.
 abbrev pub rooms_front : List ℕ
 rooms_front =
-    section_text (codes "Which rule limits the margins") ++ codes "<p>The bar of a rule is what there is, and the stroke what it needs of that, "
-    ++ codes "where it leaves the least room. Each bar has a scale of its own.</p>\n"
+    section_text (codes "Which rule limits the margins")
+    ++ codes "<p>The bar of a rule of <code>margins</code> is what there is, and the stroke what it needs of that, "
+    ++ codes "where it leaves the least room; a rule that lacks stands out. Each bar has a scale of its own. What each asks "
+    ++ codes "stands in <code>docs/FORMATS.md</code> of the project's folder.</p>\n"
 
 abbrev pub rooms_section : Bounds → Table → List ℕ
 rooms_section bounds table = rooms_front ++ mode_rooms table.mode bounds table

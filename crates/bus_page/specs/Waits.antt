@@ -5,10 +5,12 @@ use Rattle.std.specs.Prelude.{ℕ, ◌+◌, ◌-◌, ◌*◌, Bool, ◌==◌, ma
 use Rattle.bus_explain.specs.Times.{time_text}
 use Rattle.bus_table.specs.Lengths.{longest}
 use Rattle.bus_table.specs.Tables.{Sender}
-use Rattle.bus_shapes.specs.declared.class.Class.TheVariants.{Counts, Note}
+use Rattle.bus_shapes.specs.declared.class.Class.{Class}
+use Rattle.bus_shapes.specs.declared.class.Class.TheVariants.{Counts}
 use Rattle.bus_shapes.specs.declared.scale.Scale.{Scale}
 use Rattle.bus_shapes.specs.Scales.{place}
 use Rattle.bus_shapes.specs.Shapes.{words_text}
+use Rattle.bus_page.specs.Bars.{words_class}
 use Rattle.bus_page.specs.Messages.{area_of, terminal_name}
 use Rattle.bus_page.specs.Measures.{bar_height, bar_line, beside_bar, row_height, rows_top, waits_left, waits_width}
 use Rattle.bus_page.specs.Rows.{rows}
@@ -23,15 +25,15 @@ message_paint longest_of_all = if longest_of_all then Limits else Sent
 abbrev pub before_text : (top number : ℕ) → List ℕ
 before_text top number = words_text Counts (waits_left - beside_bar) (top + bar_line) (terminal_name number)
 
-abbrev pub behind_text : (left top bits : ℕ) → List ℕ
-behind_text left top bits = words_text Note (left + beside_bar) (top + bar_line) (time_text bits)
+abbrev pub behind_text : Class → (left top bits : ℕ) → List ℕ
+behind_text class left top bits = words_text class (left + beside_bar) (top + bar_line) (time_text bits)
 
 -- The row of a terminal with this longest message: the wait for its turn, and its message behind that.
 abbrev pub row_text : Scale → (most greatest top number bits : ℕ) → List ℕ
 row_text scale most greatest top number bits =
     before_text top number ++ plain Wait (area_of scale 0 most top bar_height)
     ++ plain (message_paint (bits == greatest)) (area_of scale most (most + bits) top bar_height)
-    ++ behind_text (place scale (most + bits)) top (most + bits)
+    ++ behind_text (words_class (bits == greatest)) (place scale (most + bits)) top (most + bits)
 
 -- The row of a sender.
 abbrev pub sender_text : Scale → (most greatest top : ℕ) → Sender → List ℕ
@@ -57,7 +59,7 @@ waits_text most senders =
     ++ sender_rows (waits_scale most (greatest_message senders)) most (greatest_message senders) senders ++ picture_end
 
 -- What its bars mean.
-abbrev pub waits_legend : List ℕ
-waits_legend =
-    codes "<p>Grey: from a start of the terminal to its next one, at most. Behind it its longest message, in another colour where no "
-    ++ codes "terminal has a longer one.</p>\n"
+abbrev pub waits_legend : (most : ℕ) → List ℕ
+waits_legend most =
+    codes "<p>The first part of a bar is the time from a start of the terminal to its next one, at most " ++ time_text most
+    ++ codes ". The second is its longest message; where no terminal has a longer one, it and the time behind it stand out.</p>\n"

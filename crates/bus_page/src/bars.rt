@@ -223,11 +223,11 @@ fn put_legend<K: Sink>(text: &mut TextBuffer, sink: &mut K)
 {
     text.put(
         sink,
-        b"<p>The bar of a rule is the greatest delay that it alone bears, and the line through them what the table bears. ",
+        b"<p>The bar of a rule is the greatest delay that it alone bears, and the line through them what the table bears; ",
     );
     text.put(
         sink,
-        b"Of a rule that bears every delay the bar has the full width.</p>\n",
+        b"rules that bear no more stand out. Of a rule that bears every delay the bar has the full width.</p>\n",
     );
 }
 

@@ -15,9 +15,13 @@ fn premises() -> &'static [u8]
 {
     b"<ul>
 <li>The rules are those of this project's profile of the bus: that it is the real bus is not proved.</li>
-<li>Cycle, spare and load are without delays, from the settled start, and with as many messages for each sender.</li>
-<li>The tolerance is of exact clocks; the level is of a bus within the bounds that stand with it.</li>
 <li>Each sender keeps to its SEND lines, and nobody else sends.</li>
+<li>Cycle, spare, load, waits, and ages without delays rest on exact clocks, no delay, the settled start, and as many
+messages for each sender.</li>
+<li>The tolerance, and ages with delays up to it, rest on exact clocks and as many messages for each sender; in aperiodic
+mode on power-ups within the tolerance of one another, in periodic mode on the settled start.</li>
+<li>The level is of a bus within the bounds that stand with it, on which nothing else is heard, as long as messages are
+left. At a common start all are powered up within that delay of the first sender, with as many messages for each.</li>
 </ul>
 "
 }

@@ -166,8 +166,9 @@ fn periodic_words(level: PeriodicLevel) -> &'static [u8]
     ensures { result.now ≡ definition.periodic_words level }
 {
     match level {
-        PeriodicLevel::Turns => b"turns: all take turns for ever",
-        PeriodicLevel::Leads => b"leads: all take turns for ever behind the first sender",
+        PeriodicLevel::Turns => b"turns: from a common start all take turns for ever",
+        PeriodicLevel::Leads =>
+            b"leads: from a common start all take turns for ever behind the first sender",
         PeriodicLevel::Neither => b"none: nothing is told",
     }
 }
@@ -196,7 +197,7 @@ fn level_words(table: &Table, bounds: Bounds) -> &'static [u8]
 fn put_level_name<K: Sink>(text: &mut TextBuffer, sink: &mut K, bounds: Bounds)
     ensures { Adds K.held K.faults sink.old sink.new text.old text.new (definition.level_name bounds) }
 {
-    text.put(sink, b"level, with ");
+    text.put(sink, b"level, within ");
     text.put_number(sink, bounds.delay());
     text.put(sink, b" ns of delay, ");
     text.put_number(sink, bounds.jitter());

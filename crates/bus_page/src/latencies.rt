@@ -173,7 +173,7 @@ fn columns() -> &'static [u8]
     ensures { result.now ≡ definition.columns_text }
 {
     b"<table>
-<thead><tr><th>label</th><th>sent by</th><th>data words</th>
+<thead><tr><th>label, extension</th><th>sent by</th><th>data words</th>
 <th>without delays</th><th>with delays up to the tolerance</th></tr></thead>
 <tbody>
 "

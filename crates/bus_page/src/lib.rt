@@ -5,8 +5,9 @@
 //! - [`laws`] has what holds of its pictures and numbers.
 //!
 //! The definitions are in `specs/`: `Pages` (the whole page), `Heads` (the verdict and the figures), `Messages`, `Turns` and `Cycles` (the
-//! shortest and the longest cycle), `Slots` and `Intervals` (the interval of a periodic table), `Bars` (what each rule bears), `Rooms` (the room of the margins), `Waits` and
-//! `Latencies`, `Feet` (the text, and what stands behind the page) with `Checksums`, `Rows`, `Styles`, `Paints` and `Measures`.
+//! shortest and the longest cycle), `Slots` and `Intervals` (the interval of a periodic table), `Bars` (what each rule bears), `Rooms` (the
+//! room of the margins), `Waits` and `Latencies`, `Feet` (the text, and what stands behind the page) with `Checksums`, `Rows`, `Styles`,
+//! `Paints` and `Measures`.
 #![tactic(auto)]
 
 mod bare;

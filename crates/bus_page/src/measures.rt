@@ -49,13 +49,13 @@ pub(crate) const BAR_LINE: u64 = 113;
 pub(crate) const RULES_LEFT: u64 = 2300;
 
 /// How wide they are.
-pub(crate) const RULES_WIDTH: u64 = 5900;
+pub(crate) const RULES_WIDTH: u64 = 5500;
 
 /// Where bars begin that have a terminal before them.
 pub(crate) const WAITS_LEFT: u64 = 800;
 
 /// How wide they are.
-pub(crate) const WAITS_WIDTH: u64 = 7400;
+pub(crate) const WAITS_WIDTH: u64 = 7000;
 
 /// How far before its bar words end, and behind it words begin.
 pub(crate) const BESIDE_BAR: u64 = 80;

@@ -91,7 +91,7 @@ fn put_waiting<K: Sink>(text: &mut TextBuffer, sink: &mut K, table: &Table, figu
         sink,
         b"How long data wait: those that just miss a start, until their message is sent, without delays",
     );
-    put_waits_legend(text, sink);
+    put_waits_legend(text, sink, figures.most);
     put_waits(text, sink, figures.most, table.senders());
 }
 
@@ -156,7 +156,7 @@ fn write_accepted_front<K: Sink>(
     put_pictures(&mut text, sink, table, asked, figures);
     put_premises(&mut text, sink);
     put_section(&mut text, sink, b"What it means");
-    text.put(sink, b"<pre>");
+    text.put(sink, b"<pre class=\"said\">");
     text.finish(sink)
 }
 

@@ -121,11 +121,15 @@ fn put_front<K: Sink>(text: &mut TextBuffer, sink: &mut K)
     put_section(text, sink, b"Which rule limits the margins");
     text.put(
         sink,
-        b"<p>The bar of a rule is what there is, and the stroke what it needs of that, ",
+        b"<p>The bar of a rule of <code>margins</code> is what there is, and the stroke what it needs of that, ",
     );
     text.put(
         sink,
-        b"where it leaves the least room. Each bar has a scale of its own.</p>\n",
+        b"where it leaves the least room; a rule that lacks stands out. Each bar has a scale of its own. What each asks ",
+    );
+    text.put(
+        sink,
+        b"stands in <code>docs/FORMATS.md</code> of the project's folder.</p>\n",
     );
 }
 

@@ -7,7 +7,7 @@ ghost use Rattle.bus_page.specs.Pages as definition;
 
 use crate::finding::Figures;
 use bus_bounds::Bounds;
-use bus_explain::write_accepted;
+use bus_explain::write_summary;
 use bus_margins::write_aperiodic;
 use bus_margins_periodic::{write_drifting, write_periodic};
 use bus_outer::{Sink, TextBuffer, WriteFault};
@@ -24,7 +24,7 @@ fn write_drift<K: Sink>(mode: Mode, table: &Table, sink: &mut K) -> Result<(), W
     }
 }
 
-/// Writes the sentences of an accepted table.
+/// Writes the sentences of an accepted table, without what is said of each sender, which the pictures and the text show.
 pub(crate) fn write_sentences<K: Sink>(
     table: &Table,
     figures: &Figures,
@@ -34,7 +34,7 @@ pub(crate) fn write_sentences<K: Sink>(
     ensures { WritesText K.held K.faults sink.old sink.new result
         (definition.accepted_sentences table.now figures.now.least figures.now.most) }
 {
-    write_accepted(
+    write_summary(
         table,
         figures.least,
         figures.most,

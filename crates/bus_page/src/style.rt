@@ -12,7 +12,7 @@ fn colours() -> &'static [u8]
     b":root{color-scheme:light dark;--ground:#fff;--words:#222;--small:#555;--grid:#d5d8dd;--sent:#00588f;
 --join:#d9e8f4;--gap:#a06c00;--gap-words:#7a5200;--ti:#00694d;--spare:#2f8f70;--synchronizes:#3a9b7c;
 --bears:#808894;--limits:#a63a00;--wait:#868e99}
-@media(prefers-color-scheme:dark){:root{--ground:#14171b;--words:#e6e8eb;--small:#aab2bd;--grid:#333a43;
+@media screen and (prefers-color-scheme:dark){:root{--ground:#14171b;--words:#e6e8eb;--small:#aab2bd;--grid:#333a43;
 --sent:#2a78b4;--join:#12293a;--gap:#e0a030;--gap-words:#e8b75a;--ti:#5fd6b0;--spare:#45b58d;
 --synchronizes:#45b58d;--bears:#7d8794;--limits:#e8741e;--wait:#b0bac6}}
 "
@@ -27,7 +27,8 @@ font:14px/1.45 DejaVu Sans,Verdana,Helvetica,sans-serif;max-width:1040px;margin:
 padding:0 12px}h1{font-size:22px;margin:4px 0}h2{font-size:16px;margin:26px 0 6px}
 .refused{color:var(--limits)}p,ul,dl{margin:6px 0}ul{padding-left:20px}
 pre,code{font:12px/1.5 DejaVu Sans Mono,Menlo,Consolas,monospace}pre{margin:6px 0;white-space:pre-wrap}
-pre.table{columns:4 200px}dl{display:flex;flex-wrap:wrap;gap:6px 32px}dt{color:var(--small);
+pre.said{font:inherit;max-width:760px}pre.table{columns:4 200px}
+dl{display:flex;flex-wrap:wrap;gap:6px 32px}dt{color:var(--small);
 font-size:12px}dd{margin:0;font-size:16px;font-weight:bold}table{border-collapse:collapse;
 font-variant-numeric:tabular-nums}th,td{padding:2px 14px 2px 0;text-align:right}th{font-weight:normal;
 color:var(--small)}tbody tr{border-top:1px solid var(--grid)}svg{display:block;width:100%;height:auto}
@@ -45,8 +46,20 @@ fn shapes() -> &'static [u8]
 .tick{fill:var(--small)}.grid{fill:var(--grid)}.sent{fill:var(--sent)}.join{fill:var(--join)}
 .gap{fill:var(--gap)}.ti{fill:var(--ti)}.tolerance,.need{fill:var(--words)}.spare{fill:var(--spare)}
 .synchronizes{fill:var(--synchronizes)}.bears{fill:var(--bears)}.limits{fill:var(--limits)}
-.wait{fill:var(--wait)}@media print{body{margin:0;max-width:none;font-size:11px}h2{break-after:avoid}
-svg,tr,li{break-inside:avoid}}@page{size:A4;margin:12mm}
+.wait{fill:var(--wait)}
+"
+}
+
+/// The looks of a page on paper: one of a table of eight senders takes two sheets.
+fn prints() -> &'static [u8]
+    ensures { result.now ≡ definition.prints_text }
+{
+    b"@media print{body{margin:0;padding:0;max-width:none;font-size:10px;line-height:1.4}h1{font-size:17px}
+h2{font-size:12.5px;margin:11px 0 3px}p,ul,dl,pre{margin:3px 0}pre,code{font-size:9px;line-height:1.4}
+pre.said{font-size:10px;max-width:none}pre.table{columns:5 120px}dl{gap:3px 24px}dt{font-size:9px}
+dd{font-size:12px}th,td{padding:1px 12px 0 0}text{font-size:120px}
+.small,.detail,.gap-words,.interval-words{font-size:110px}h2,h2+p{break-after:avoid}
+svg,tr,li,pre.said{break-inside:avoid}}@page{size:A4;margin:10mm}
 "
 }
 
@@ -58,5 +71,6 @@ pub(crate) fn put_style<K: Sink>(text: &mut TextBuffer, sink: &mut K)
     text.put(sink, colours());
     text.put(sink, looks());
     text.put(sink, shapes());
+    text.put(sink, prints());
     text.put(sink, b"</style>\n");
 }

@@ -4,6 +4,7 @@ ghost use Rattle.bus_outer.specs.Texts.{Adds};
 ghost use Rattle.bus_shapes.specs.Scales.{IsScale};
 ghost use Rattle.bus_page.specs.Waits as definition;
 
+use crate::bars::words_class;
 use crate::measures::{
     BAR_HEIGHT, BAR_LINE, BESIDE_BAR, ROW_HEIGHT, ROWS_TOP, WAITS_LEFT, WAITS_WIDTH,
 };
@@ -42,12 +43,19 @@ fn put_before<K: Sink>(text: &mut TextBuffer, sink: &mut K, top: u64, number: u8
 }
 
 /// Puts the words behind a bar that ends here.
-fn put_behind<K: Sink>(text: &mut TextBuffer, sink: &mut K, left: u64, top: u64, bits: u64)
+fn put_behind<K: Sink>(
+    text: &mut TextBuffer,
+    sink: &mut K,
+    class: Class,
+    left: u64,
+    top: u64,
+    bits: u64,
+)
     requires left { left < 2 ^ 40 }
     requires top { top < 2 ^ 40 }
-    ensures { Adds K.held K.faults sink.old sink.new text.old text.new (definition.behind_text left top bits) }
+    ensures { Adds K.held K.faults sink.old sink.new text.old text.new (definition.behind_text class left top bits) }
 {
-    begin_words(text, sink, Class::Note, left + BESIDE_BAR, top + BAR_LINE);
+    begin_words(text, sink, class, left + BESIDE_BAR, top + BAR_LINE);
     put_time(text, sink, bits as u128);
     end_words(text, sink);
 }
@@ -71,6 +79,7 @@ fn put_row<K: Sink>(
 {
     let end = most + bits;
     let paint = message_paint(bits == greatest);
+    let class = words_class(bits == greatest);
     put_before(text, sink, top, number);
     put_plain(
         text,
@@ -84,7 +93,7 @@ fn put_row<K: Sink>(
         paint,
         area_of(scale, most, end, top, BAR_HEIGHT),
     );
-    put_behind(text, sink, scale.place(end), top, end);
+    put_behind(text, sink, class, scale.place(end), top, end);
 }
 
 /// Puts the row of a sender.
@@ -188,12 +197,16 @@ pub(crate) fn put_waits<K: Sink>(text: &mut TextBuffer, sink: &mut K, most: u64,
 }
 
 /// Puts what its bars mean.
-pub(crate) fn put_waits_legend<K: Sink>(text: &mut TextBuffer, sink: &mut K)
-    ensures { Adds K.held K.faults sink.old sink.new text.old text.new definition.waits_legend }
+pub(crate) fn put_waits_legend<K: Sink>(text: &mut TextBuffer, sink: &mut K, most: u64)
+    ensures { Adds K.held K.faults sink.old sink.new text.old text.new (definition.waits_legend most) }
 {
     text.put(
         sink,
-        b"<p>Grey: from a start of the terminal to its next one, at most. Behind it its longest message, in another colour where no ",
+        b"<p>The first part of a bar is the time from a start of the terminal to its next one, at most ",
     );
-    text.put(sink, b"terminal has a longer one.</p>\n");
+    put_time(text, sink, most as u128);
+    text.put(
+        sink,
+        b". The second is its longest message; where no terminal has a longer one, it and the time behind it stand out.</p>\n",
+    );
 }

@@ -22,7 +22,7 @@ fn has(bytes: &[u8], part: &[u8]) -> bool {
     bytes.windows(part.len()).any(|window| window == part)
 }
 
-/// Checks that the page of a table has each of these parts.
+/// Checks that the page of a table has each of these parts, and none of the lines of `explain` on each sender.
 fn has_parts(rt: &(impl Abort + AllocGlobal), text: &[u8], parts: &[&[u8]]) -> Result<(), Fail> {
     let alloc = rt.alloc();
     let table = read_table(alloc, text)?;
@@ -32,6 +32,8 @@ fn has_parts(rt: &(impl Abort + AllocGlobal), text: &[u8], parts: &[&[u8]]) -> R
     for part in parts {
         assert!(rt; has(sink.bytes(), part));
     }
+    assert!(rt; !has(sink.bytes(), b"The senders speak"));
+    assert!(rt; !has(sink.bytes(), b"terminal gap, TG    "));
     Ok(())
 }
 
@@ -50,6 +52,9 @@ fn an_accepted_aperiodic_table(rt: HostRuntime) -> Result<(), Fail> {
             b"T90: 10284 bit times (5142 \xc2\xb5s), from 764 to 11048",
             b"T128: 420 bit times (210 \xc2\xb5s), from 12664 to 13084",
             b"23368 bit times (11684 \xc2\xb5s)",
+            b"to its next one, at most 13084 bit times (6542 \xc2\xb5s). The second",
+            b"<pre class=\"said\">The table is accepted: ",
+            b"each as long as it may be; the rest is gaps.\nThe tolerance is 19 bit times (9.5 \xc2\xb5s): ",
             b"tester 1",
             b"50FCE854",
         ],
@@ -67,6 +72,9 @@ fn an_accepted_periodic_table(rt: HostRuntime) -> Result<(), Fail> {
             b"gap before T1: 2860 bit times (1430 \xc2\xb5s); it synchronizes all",
             b"gap before T2: 20 bit times (10 \xc2\xb5s); it synchronizes nobody",
             b"every delay",
+            b"to its next one, at most 4000 bit times (2000 \xc2\xb5s). The second",
+            b"each as long as it may be; the rest is gaps.\nThe tolerance is 5 bit times (2.5 \xc2\xb5s): ",
+            b"<dt>level, within 0 ns of delay, 0 ns of jitter, and clocks 50 millionths off</dt><dd>none: nothing is told</dd>",
             b"DDD39E1F",
         ],
     )

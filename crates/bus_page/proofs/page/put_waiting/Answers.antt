@@ -12,7 +12,7 @@ use Rattle.bus_page.proofs.page.put_waiting.Goals as goal
 
 pub returns : goal.returns
 returns g c =
-    let text : List Sender → List ℕ = λ l. section_text (codes "How long data wait: those that just miss a start, until their message is sent, without delays") ++ waits_legend ++ waits_text c.args.figures.now.most l in
+    let text : List Sender → List ℕ = λ l. section_text (codes "How long data wait: those that just miss a start, until their message is sent, without delays") ++ waits_legend c.args.figures.now.most ++ waits_text c.args.figures.now.most l in
     subst (λ (t : List ℕ). Adds g.K.Sink.held g.K.Sink.faults c.args.sink.now c.put_waits.new.sink c.args.text.now c.put_waits.new.text t)
     (ap (λ (x : List Sender). text x) (c.senders.ensures.value))
     (c.put_section.ensures ▸ c.put_waits_legend.ensures ▸ c.put_waits.ensures)
