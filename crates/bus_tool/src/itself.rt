@@ -49,7 +49,7 @@ what each terminal receives, and audits recorded traces. What it says is proved.
                           timers allow it?
   bus629 diagnose T R D J P  tell which terminal of the recorded bus R is at fault, by which timer
                           and by how much: up to D bit times from the monitor, timers off by up to J
-                          bit times, oscillators by up to P millionths
+                          bit times, its oscillator and the monitor's together by up to P millionths
   bus629 vote T R         what two of three channels agree on, in each round of the trace in R
   bus629 wave T R         the wave of the trace in R, half bit time for half bit time
   bus629 unwave T W       the trace whose wave is in W
