@@ -9,9 +9,12 @@ pub mod TextLemmas
 pub mod TakeLemmas
 pub mod ReadLemmas
 pub mod FewHands
+pub mod LineLemmas
+pub mod CountLemmas
 pub mod InputLemmas
 pub mod RefusedReads
 pub mod TracedLemmas
+pub mod FollowedLemmas
 pub mod ToldLemmas
 pub mod ClaimLemmas
 pub mod BoundingLaws

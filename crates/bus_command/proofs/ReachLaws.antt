@@ -1,15 +1,19 @@
 -- How far the sources were read, and their counts, by where a command stopped.
-use Rattle.std.specs.Prelude.{◌≡◌, ℕ, ◌⊎◌, nat_lt, false, List, [], Option, Some, None, IsSome}
-use Rattle.std.proofs.Common.{arith, refl, sym, ap, ◌∙◌, subst, cond, inl, inr}
+use Rattle.std.specs.Prelude.{◌≡◌, ℕ, ◌⊎◌, ◌≤◌, ◌+◌, nat_lt, false, List, [], ◌++◌, Option, Some, None, IsSome}
+use Rattle.std.proofs.Common.{arith, refl, sym, ap, ◌∙◌, subst, cond, inl, inr, length-append}
 use Rattle.std.proofs.lemmas.Bool.Decides.{nat_tests}
-use Rattle.bus_outer.specs.Sources.{Taken}
+use Rattle.bus_outer.specs.Sources.{Taken, TakesSome}
+use Rattle.bus_outer.proofs.WriteLaws.{taken_on}
+use Rattle.bus_trace.specs.Limits.{trace_limit}
 use Rattle.bus_trace.specs.Traces.{text_in}
 use Rattle.bus_command.specs.Kinds.{Kind, NoForm, NotRead, TooMuch, Wrong, Late, NotWritten, NoRoom, Answer}
 use Rattle.bus_command.specs.Outside.{Seen, Sources, both, Stays, BothStay}
-use Rattle.bus_command.specs.Readers.{Reader, Entire, Trace, Named, Reach, Untouched, Broken, Within, Past, Judged, ReadsBy, Reads, reach_at}
+use Rattle.bus_command.specs.Heard.{heard_limit}
+use Rattle.bus_command.specs.Readers.{Reader, Entire, Trace, Heard, TakesHeard, Named, Reach, Untouched, Broken, Within, Past, Judged, ReadsBy, Reads, reach_at}
 use Rattle.bus_command.specs.Readers.{reach, First, Second, SourceCounts, OutCounts}
 use Rattle.bus_command.specs.Steps.{stopped_at, StopsAt, StepCounts, IsEarly}
 use Rattle.bus_command.specs.Acts.{IsBehind}
+use Rattle.bus_command.proofs.CountLemmas.{looked_most}
 use Rattle.bus_command.proofs.StageLaws.{IsLowRead}
 
 -- at its own stage
@@ -33,6 +37,7 @@ own_reach number Answer h = absurd h
 pub untouched : (reader : Reader) (seen : Seen) → ReadsBy reader Untouched seen seen
 untouched (Entire limit) seen = refl
 untouched Trace seen = refl
+untouched Heard seen = refl
 
 -- nothing of it was taken
 took_nothing : (bytes : Option (List ℕ)) → Taken bytes bytes []
@@ -42,11 +47,20 @@ took_nothing (Some text) = refl
 pub nothing_within : (reader : Reader) (seen : Seen) → ReadsBy reader Within seen seen
 nothing_within (Entire limit) seen = ([], took_nothing seen.bytes, omega arith)
 nothing_within Trace seen = ([], took_nothing seen.bytes, omega arith)
+nothing_within Heard seen = ([], took_nothing seen.bytes, omega arith)
 
 -- the source at which a step stopped
 pub reads_own : (reader : Reader) (number : ℕ) (k : Kind) (old new : Seen) → StopsAt number k → ReadsBy reader (stopped_at k) old new
     → ReadsBy reader (reach number k) old new
 reads_own reader number k old new h r = subst (λ reach. ReadsBy reader reach old new) (sym (own_reach number k h)) r
+
+heard_within : (old new : Option (List ℕ)) → TakesHeard old new → TakesSome old new (λ n. n ≤ trace_limit + heard_limit)
+heard_within old new h =
+    let text = text_in h.first.format h.trace in (
+      text ++ h.behind.bytes,
+      taken_on old h.between new text h.behind.bytes h.first.came h.behind.came,
+      omega (arith, h.first.short, h.behind.known, looked_most (h.behind.bytes ++ h.behind.rest), length-append text h.behind.bytes),
+    )
 
 -- what was read as far as its reader goes was read within its limit
 pub judged_within : (reader : Reader) (old new : Seen) → ReadsBy reader Judged old new → ReadsBy reader Within old new
@@ -55,6 +69,10 @@ judged_within Trace old new r = elim r [
   | inl whole ↦ (text_in whole.1.format whole.0, whole.1.came, whole.1.short)
   | inr wrong ↦
       (wrong.2.bytes, wrong.2.came, wrong.2.known.1)
+]
+judged_within Heard old new r = elim r [
+  | inl whole ↦ heard_within old.bytes new.bytes whole
+  | inr wrong ↦ (wrong.2.bytes, wrong.2.came, omega (arith, wrong.2.known.1))
 ]
 
 -- the first, where the second step stopped

@@ -24,7 +24,7 @@ use Rattle.bus_command.proofs.StageLaws.{if_map, some_map, some_all, told_or, th
 use Rattle.bus_command.proofs.TakeLemmas.{takes_then}
 use Rattle.bus_command.proofs.PrepareLaws.{prepares_none, prepares_both}
 
-reading_stage : (R : Type 0) (r : Result Recording TraceError) → 2 ≤ stage_in (trace_or_refusal {R = R} r)
+pub reading_stage : (R : Type 0) (r : Result Recording TraceError) → 2 ≤ stage_in (trace_or_refusal {R = R} r)
 reading_stage R (Ok trace) = omega arith
 reading_stage R (Err (Text byte reason)) = omega arith
 reading_stage R (Err ReadFault) = omega arith
@@ -53,7 +53,7 @@ trace_taken back old new trace is t g counts = record {
   counts = counts;
 }
 
-trace_refused : {R : Type 0} (old new : Seen) (e : TraceError) → TakesTrace old.bytes new.bytes (Err e)
+pub trace_refused : {R : Type 0} (old new : Seen) (e : TraceError) → TakesTrace old.bytes new.bytes (Err e)
     → IfSome old.bytes (λ stream. ReadGives (Err e) (reading trace_limit stream)) → CountsReading old.faults new.faults (Err e)
     → Takes {R = R} {X = Recording} Same 2 Trace trace_due old new (Err (trace_refusal e))
 trace_refused old new (Text byte reason) t g counts = record {

@@ -1,5 +1,5 @@
 -- What is due for given texts, step by step: a value, or the outcome that refuses it. The order of the steps is the order of refusals.
-use Rattle.std.specs.Prelude.{◌≡◌, ℕ, true, nat_lt, List, length, Option, Result, Ok, Err, if◌then◌else◌}
+use Rattle.std.specs.Prelude.{◌≡◌, ℕ, Bool, true, false, nat_lt, List, length, Option, None, Result, Ok, Err, if◌then◌else◌}
 use Rattle.bus_text.specs.AllOf.{◌>>=◌}
 use Rattle.bus_text.specs.Refusals.{Refusal}
 use Rattle.bus_strings.specs.Items.{Item}
@@ -19,6 +19,9 @@ use Rattle.bus_trace.specs.Traces.{Recording}
 use Rattle.bus_trace.specs.Limits.{trace_limit}
 use Rattle.bus_trace.specs.Runs.{reading}
 use Rattle.bus_command.specs.declared.inputs.Traced.{Traced}
+use Rattle.bus_command.specs.declared.recorded.Followed.{Followed}
+use Rattle.bus_command.specs.declared.recorded.Recorded.{Recorded}
+use Rattle.bus_command.specs.Heard.{garbled_behind}
 use Rattle.bus_command.specs.declared.outcome.Outcome.{Outcome}
 use Rattle.bus_command.specs.declared.outcome.Outcome.TheVariants.{TableText, TableWhole, MessagesText, Unfit, TraceText}
 use Rattle.bus_command.specs.declared.outcome.Outcome.TheVariants.{ReadFault, NoMemory}
@@ -128,6 +131,27 @@ any_trace table text = trace_due text
 -- A table and a trace.
 abbrev pub traced_due : {R : Type 0} → List ℕ → List ℕ → Result Traced (Outcome R)
 traced_due first second = traced_by any_trace first second
+
+-- How many receptions are garbled behind a trace, where that is looked at.
+abbrev pub garbled_where : Bool → Recording → List ℕ → Option ℕ
+garbled_where false trace text = None
+garbled_where true trace text = garbled_behind trace text
+
+-- A trace, and this behind it.
+abbrev pub with_garbled : Recording → Option ℕ → Followed
+with_garbled trace garbled = record { trace = trace; garbled = garbled }
+
+-- The trace at the front of the second text, and what is told behind it, where that is looked at.
+abbrev pub followed_due : {R : Type 0} → Bool → List ℕ → Result Followed (Outcome R)
+followed_due hears text = trace_due text >>= λ trace. Ok (with_garbled trace (garbled_where hears trace text))
+
+-- A table, and these.
+abbrev pub with_followed : Table → Followed → Recorded
+with_followed table followed = record { table = table; trace = followed.trace; garbled = followed.garbled }
+
+-- A table, a trace, and what is told behind it, where that is looked at.
+abbrev pub recorded_due : {R : Type 0} → Bool → List ℕ → List ℕ → Result Recorded (Outcome R)
+recorded_due hears first second = table_due first >>= λ table. followed_due hears second >>= λ followed. Ok (with_followed table followed)
 
 -- ---- the answer
 -- A refusal, or the answer to a value.

@@ -5,6 +5,7 @@ pub mod Bounding
 pub mod Kinds
 pub mod Outcomes
 pub mod Outside
+pub mod Heard
 pub mod Readers
 pub mod Stages
 pub mod Steps

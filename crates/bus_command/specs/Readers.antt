@@ -1,7 +1,7 @@
 -- How the sources are read.
 --   reader   how a source is read, and up to which limit
 --   reach    how far it was read
-use Rattle.std.specs.Prelude.{◌≡◌, ℕ, ◌+◌, ◌≤◌, ◌<◌, nat_lt, List, [], Option, Some, None, IfSome, IsSome, Ok, Err, ◌⊎◌}
+use Rattle.std.specs.Prelude.{◌≡◌, ℕ, ◌+◌, ◌≤◌, ◌<◌, nat_lt, Bool, true, false, List, [], ◌++◌, length, Option, Some, None, IfSome, IsSome, Ok, Err, ◌⊎◌}
 use Rattle.std.specs.Prelude.{if◌then◌else◌}
 use Rattle.bus_outer.specs.Sources.{TakesSome, most_piece}
 use Rattle.bus_trace.specs.declared.fault.TraceError.TheVariants.{Text, ReadFault, TooLarge}
@@ -9,6 +9,7 @@ use Rattle.bus_trace.specs.declared.reason.TraceReason.{TraceReason}
 use Rattle.bus_trace.specs.Traces.{Recording}
 use Rattle.bus_trace.specs.Limits.{trace_limit}
 use Rattle.bus_trace.specs.Reading.{TakesTrace}
+use Rattle.bus_command.specs.Heard.{Looks, heard_limit, looked_at}
 use Rattle.bus_command.specs.Kinds.{Kind, NoForm, NotRead, TooMuch, Wrong, Late, NotWritten, NoRoom, Answer}
 use Rattle.bus_command.specs.Outside.{Seen, Sources, Rises, Stays, BothStay}
 
@@ -16,10 +17,17 @@ use Rattle.bus_command.specs.Outside.{Seen, Sources, Rises, Stays, BothStay}
 abbrev pub text_limit : ℕ
 text_limit = 8388608
 
--- Entire: it is read whole, of no more bytes than a limit. Trace: it is read as far as a trace text goes.
+-- Entire: it is read whole, of no more bytes than a limit. Trace: it is read as far as a trace text goes. Heard: behind that what stands
+-- there is looked at too, as far as a heard text goes.
 pub data Reader : Type 0 where
   Entire : (limit : ℕ) → Reader
   Trace : Reader
+  Heard : Reader
+
+-- How a trace is read, by whether what stands behind it is looked at.
+abbrev pub reader_of : Bool → Reader
+reader_of false = Trace
+reader_of true = Heard
 
 -- How a table text and a messages text are read.
 abbrev pub entire : Reader
@@ -45,6 +53,10 @@ two_sources first second = record { first = Some first; second = Some second }
 -- A form that names a table and a trace.
 abbrev pub by_trace : Named
 by_trace = two_sources entire Trace
+
+-- The same, by whether what stands behind the trace is looked at.
+abbrev pub by_recorded : Bool → Named
+by_recorded hears = two_sources entire (reader_of hears)
 
 -- The bytes of a source, where it is named; none are asked of one that isn't.
 abbrev pub told : Option Reader → Seen → Option (List ℕ)
@@ -92,10 +104,35 @@ ReadsTrace Within old new = TakesSome old.bytes new.bytes (λ n. n ≤ trace_lim
 ReadsTrace Past old new = TakesTrace old.bytes new.bytes (Err TooLarge)
 ReadsTrace Judged old new = TakesDecided old.bytes new.bytes
 
+-- A trace text was taken, and all that is looked at behind it.
+pub record TakesHeard (old new : Option (List ℕ)) : Type 0 where
+  pub trace : Recording
+  pub between : Option (List ℕ)
+  pub first : TakesTrace old between (Ok trace)
+  pub behind : Looks between new (λ bytes rest. looked_at (bytes ++ rest) ≡ length bytes)
+
+-- A trace text was taken, and some of that.
+pub record BreaksOff (old new : Option (List ℕ)) : Type 0 where
+  pub trace : Recording
+  pub between : Option (List ℕ)
+  pub first : TakesTrace old between (Ok trace)
+  pub behind : Looks between new (λ bytes rest. length bytes ≤ looked_at (bytes ++ rest))
+
+-- What was taken of a source that is read as a trace with what stands behind it.
+abbrev pub ReadsHeard : Reach → Seen → Seen → Type 0
+ReadsHeard Untouched old new = new ≡ old
+ReadsHeard Broken old new = TakesTrace old.bytes new.bytes (Err ReadFault) ⊎ BreaksOff old.bytes new.bytes
+ReadsHeard Within old new = TakesSome old.bytes new.bytes (λ n. n ≤ trace_limit + heard_limit)
+ReadsHeard Past old new = TakesTrace old.bytes new.bytes (Err TooLarge)
+ReadsHeard Judged old new =
+    TakesHeard old.bytes new.bytes
+    ⊎ ((byte : ℕ) × (reason : TraceReason) × TakesTrace old.bytes new.bytes (Err (Text byte reason)))
+
 -- What was taken of a source by its reader.
 abbrev pub ReadsBy : Reader → Reach → Seen → Seen → Type 0
 ReadsBy (Entire limit) reach old new = ReadsEntire limit reach old new
 ReadsBy Trace reach old new = ReadsTrace reach old new
+ReadsBy Heard reach old new = ReadsHeard reach old new
 
 -- The same; a source that isn't named wasn't pulled.
 abbrev pub Reads : Option Reader → Reach → Seen → Seen → Type 0

@@ -1,3 +1,4 @@
 -- What only contracts of private functions and proofs name: not to be read for what is promised.
 pub mod Acting
 pub mod Steps
+pub mod Looking

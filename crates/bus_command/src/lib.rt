@@ -16,8 +16,10 @@ mod bounding;
 mod fates;
 mod fault_line;
 mod gathering;
+mod heard;
 mod inputs;
 mod outcome;
+mod recorded;
 mod refusal;
 mod sources;
 mod status;
@@ -32,6 +34,7 @@ pub use inputs::{
     Dealt, TEXT_LIMIT, Traced, take_hands, take_table, take_text, take_trace, take_traced,
 };
 pub use outcome::Outcome;
+pub use recorded::{Recorded, take_recorded};
 pub use refusal::{Place, Refusal};
 pub use sources::{FileSources, sources_of};
 pub use status::Status;

@@ -1,4 +1,5 @@
 -- The lemmas of this crate; those that a crate above may cite are public.
+pub mod CableLemmas
 pub mod SentLemmas
 pub mod RowLemmas
 pub mod AscendLemmas

@@ -18,7 +18,7 @@ use Rattle.bus_shapes.specs.declared.counts.Counts.{Counts}
 use Rattle.bus_shapes.specs.Frames.{frame_text, tail_text}
 use Rattle.bus_shapes.specs.Numbers.{parted}
 use Rattle.bus_shapes.specs.declared.told.Told.{Told}
-use Rattle.bus_shapes.specs.declared.told.Told.TheVariants.{Audit, Findings}
+use Rattle.bus_shapes.specs.declared.told.Told.TheVariants.{Audit, OnCable, Findings}
 use Rattle.bus_shapes.specs.declared.scale.Scale.{Scale}
 use Rattle.bus_shapes.specs.Scales.{place}
 use Rattle.bus_shapes.specs.declared.area.Area.{Area}
@@ -141,7 +141,8 @@ fault_legend faults = if nat_lt 0 faults then marking Fault fault_width (codes "
 -- What the mark means of the first breach of an audit, or of a fault among findings.
 abbrev pub mark_legend : Survey → Told → List ℕ
 mark_legend survey (Audit answer) = breach_legend survey.marked
-mark_legend survey (Findings bounds judgements) = fault_legend (fault_sum judgements.items)
+mark_legend survey (OnCable garbled) = []
+mark_legend survey (Findings bounds judgements garbled) = fault_legend (fault_sum judgements.items)
 
 -- What it means that a row is drawn open, where one is cut.
 abbrev pub open_legend : Survey → List ℕ
@@ -249,21 +250,33 @@ breach_text page (Some moment) None = []
 breach_text page (Some moment) (Some row) = breach_in_row page moment row
 
 -- ---- the whole
--- The picture of a window of a trace on a table, given what is told of its rows, and what these go by.
-abbrev pub text_of : Page → Survey → Window → TableVerdict → Told → Table → Recording → List ℕ
-text_of page survey window verdict told table trace =
-    frame_text (height_of page) verdict told table trace.list (counts window trace)
-    ++ above_text page survey (counts window trace) told ++ dues_text page table
+-- The picture of a window of a trace on a table in this frame, given what is told of its rows, and what these go by.
+abbrev pub framed : List ℕ → Page → Survey → Window → TableVerdict → Told → Table → Recording → List ℕ
+framed frame page survey window verdict told table trace =
+    frame ++ above_text page survey (counts window trace) told ++ dues_text page table
     ++ rows_text page (rows table window trace.list) ++ loads_text page trace.list (rows table window trace.list)
     ++ marks_text page table verdict ++ below_text page
     ++ breach_text page (breach_in window told) survey.marked ++ faults_text page told (rows table window trace.list) ++ tail_text
+
+-- The picture in its frame, given these.
+abbrev pub text_of : Page → Survey → Window → TableVerdict → Told → Table → Recording → List ℕ
+text_of page survey window verdict told table trace =
+    framed (frame_text (height_of page) verdict told table trace.list (counts window trace)) page survey window verdict told table trace
 
 -- What is told of the rows of a window of a trace.
 abbrev pub survey_in : Window → Told → Table → Recording → Survey
 survey_in window told table trace = survey_of (cycle_of table) (seen_of (counts window trace)) (breach_in window told) (shown window trace.list)
 
+-- What these go by.
+abbrev pub page_in : Window → Told → Table → Recording → Page
+page_in window told table trace = page_of table (survey_in window told table trace) (counts window trace)
+
 -- The picture of a window of a trace on a table, with what is told of the trace.
 unfoldable pub cycles_text : Window → TableVerdict → Told → Table → Recording → List ℕ
 cycles_text window verdict told table trace =
-    text_of (page_of table (survey_in window told table trace) (counts window trace)) (survey_in window told table trace) window verdict
-    told table trace
+    text_of (page_in window told table trace) (survey_in window told table trace) window verdict told table trace
+
+-- The same in another frame.
+abbrev pub framed_in : List ℕ → Window → TableVerdict → Told → Table → Recording → List ℕ
+framed_in frame window verdict told table trace =
+    framed frame (page_in window told table trace) (survey_in window told table trace) window verdict told table trace

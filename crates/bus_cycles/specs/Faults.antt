@@ -9,7 +9,7 @@ use Rattle.bus_shapes.specs.declared.area.Area.{Area}
 use Rattle.bus_shapes.specs.declared.class.Class.TheVariants.{Fault, Note}
 use Rattle.bus_shapes.specs.declared.sent.Sent.{Sent}
 use Rattle.bus_shapes.specs.declared.told.Told.{Told}
-use Rattle.bus_shapes.specs.declared.told.Told.TheVariants.{Audit, Findings}
+use Rattle.bus_shapes.specs.declared.told.Told.TheVariants.{Audit, OnCable, Findings}
 use Rattle.bus_shapes.specs.Shapes.{titled_text, words_text}
 use Rattle.bus_cycles.specs.Measures.{breach_left, fault_height, fault_width}
 use Rattle.bus_cycles.specs.Pages.{Page, top_of}
@@ -69,7 +69,8 @@ row_faults page found row =
 abbrev pub faults_of : Page → List Judgement → List Row → List ℕ
 faults_of page found rows = flat_map (row_faults page found) rows
 
--- Findings are marked; an audit tells of none.
+-- Findings are marked; an audit tells of none, nor does a trace that was recorded on a cable.
 abbrev pub faults_text : Page → Told → List Row → List ℕ
 faults_text page (Audit answer) rows = []
-faults_text page (Findings bounds judgements) rows = faults_of page judgements.items rows
+faults_text page (OnCable garbled) rows = []
+faults_text page (Findings bounds judgements garbled) rows = faults_of page judgements.items rows

@@ -22,7 +22,10 @@ use Rattle.bus_shapes.specs.SendingLaws.{IsToldOf}
 use Rattle.bus_trace.specs.Windows.{Window}
 use Rattle.bus_findings.specs.declared.judgement.Judgement.{Judgement}
 use Rattle.bus_findings.specs.Terminals.{fault_sum, is_faulty}
-use Rattle.bus_cycles.specs.CyclesTexts.{part_above, part_below}
+use Rattle.bus_audit.specs.declared.answer.AuditAnswer.TheVariants.{Lawful}
+use Rattle.bus_regime.specs.declared.table_verdict.TableVerdict.{TableVerdict}
+use Rattle.bus_shapes.specs.declared.told.Told.TheVariants.{Audit, OnCable}
+use Rattle.bus_cycles.specs.CyclesTexts.{framed_in, part_above, part_below}
 use Rattle.bus_cycles.specs.Dues.{due_line, dues_text}
 use Rattle.bus_cycles.specs.Faults.{fault_at, faults_of, lower_part, upper_part}
 use Rattle.bus_cycles.specs.Loads.{busy_of, whole_of}
@@ -173,6 +176,12 @@ FaultsAreMarked =
 abbrev pub NoFaultIsMarked : Type 0
 NoFaultIsMarked =
     (page : Page) (judgements : List Judgement) (rows : List Row) → fault_sum judgements ≡ 0 → faults_of page judgements rows ≡ []
+
+-- But for its frame the picture of what was recorded on a cable is that of a lawful trace, in which no breach is marked.
+abbrev pub CableIsUnmarked : Type 0
+CableIsUnmarked =
+    (frame : List ℕ) (window : Window) (verdict : TableVerdict) (table : Table) (trace : Recording) (garbled collided : ℕ)
+    → framed_in frame window verdict (OnCable garbled) table trace ≡ framed_in frame window verdict (Audit (Lawful collided)) table trace
 
 -- A line across the box of a transmission meets no part of a mark of its row, so that something of the box is seen.
 pub record IsSeenBetween (above below box : Area) : Type 0 where

@@ -7,7 +7,7 @@ use Rattle.bus_audit.specs.declared.answer.AuditAnswer.TheVariants.{Lawful, Brea
 use Rattle.bus_trace.specs.Traces.{Recording}
 use Rattle.bus_shapes.specs.declared.counts.Counts.{Counts}
 use Rattle.bus_shapes.specs.declared.told.Told.{Told}
-use Rattle.bus_shapes.specs.declared.told.Told.TheVariants.{Audit, Findings}
+use Rattle.bus_shapes.specs.declared.told.Told.TheVariants.{Audit, OnCable, Findings}
 use Rattle.bus_trace.specs.Windows.{Window, holds}
 use Rattle.bus_shapes.specs.declared.sent.Sent.{Sent}
 use Rattle.bus_cycles.specs.Rows.{Cycle, Extent, extent_of, rows_of, takes}
@@ -31,7 +31,8 @@ audited_breach window (Breach moment terminal kind) = if holds window moment the
 -- The same of what is told of a trace: findings tell of no breach.
 abbrev pub breach_in : Window → Told → Option ℕ
 breach_in window (Audit answer) = audited_breach window answer
-breach_in window (Findings bounds judgements) = None
+breach_in window (OnCable garbled) = None
+breach_in window (Findings bounds judgements garbled) = None
 
 -- Whether a row takes the breach at this moment.
 abbrev pub takes_breach : Cycle → Option ℕ → Extent → Bool

@@ -284,7 +284,7 @@ pub(crate) fn put_faults<K: Sink>(
         (definition.faults_text page.now told.now (rows_of page.now.cycle (shown window.now trace.now.list))) }
 {
     match told {
-        Told::Audit(_) => {}
+        Told::Audit(_) | Told::OnCable { .. } => {}
         Told::Findings { judgements, .. } => {
             put_found(text, sink, page, judgements, window, trace)
         }

@@ -3,7 +3,7 @@ ghost use Rattle.bus_cycles.specs.Laws.{BreachHidesNone, BreachIsAtItsMoment, Br
 ghost use Rattle.bus_cycles.specs.Laws.{FaultHidesNone, FaultsAreMarked, NoFaultIsMarked};
 ghost use Rattle.bus_cycles.specs.Laws.{HatchedAreDrawnLast, HatchedAreGarbled, KeptAreDrawn, LeftOutAreCovered, LengthsAreOfRows};
 ghost use Rattle.bus_cycles.specs.Laws.{LoadsAreShares, NeighboursDiffer, RowsAreAPartition, RowsAreCounted, RowsAreCycles};
-ghost use Rattle.bus_cycles.specs.Laws.{BoxesBeginWhereDue, CutAreOpen, DuesAreMarked, EndsAreNamed};
+ghost use Rattle.bus_cycles.specs.Laws.{BoxesBeginWhereDue, CableIsUnmarked, CutAreOpen, DuesAreMarked, EndsAreNamed};
 ghost use Rattle.bus_cycles.specs.Laws.{OpenHidesNone, RowsAreIntervals, RowsAreNumbered, RowsAscend, RowsHaveLengths};
 ghost use Rattle.bus_cycles.specs.Laws.{SlotsAreKept, TheLastRowIsMarked, ThreeLieApart, WholeAreCounted, WholeAreSeen};
 
@@ -91,6 +91,11 @@ pub fn faults_are_marked()
 /// Where the heading counts no fault, none is marked.
 pub fn no_fault_is_marked()
     ensures { NoFaultIsMarked }
+{}
+
+/// In a picture of what was recorded on a cable nothing is marked: but for its frame it is that of a lawful trace.
+pub fn cable_is_unmarked()
+    ensures { CableIsUnmarked }
 {}
 
 /// The mark of a fault hides no box of its row: something of each is seen between its two parts.

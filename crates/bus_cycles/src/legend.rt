@@ -107,6 +107,7 @@ fn put_mark_legend<K: Sink>(text: &mut TextBuffer, sink: &mut K, survey: &Survey
 {
     match told {
         Told::Audit(_) => put_breach(text, sink, survey.marked),
+        Told::OnCable { .. } => {}
         Told::Findings { judgements, .. } => put_fault(text, sink, fault_sum(judgements)),
     }
 }

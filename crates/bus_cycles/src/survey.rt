@@ -54,7 +54,7 @@ pub(crate) fn breach_in(window: &Window, told: &Told) -> Option<u64>
 {
     match told {
         Told::Audit(answer) => audited_breach(window, *answer),
-        Told::Findings { .. } => None,
+        Told::OnCable { .. } | Told::Findings { .. } => None,
     }
 }
 

@@ -7,7 +7,7 @@ use Rattle.bus_audit.specs.declared.answer.AuditAnswer.TheVariants.{Lawful, Brea
 use Rattle.bus_dump.specs.declared.lane.Lane.{Lane}
 use Rattle.bus_shapes.specs.declared.scale.Scale.{Scale}
 use Rattle.bus_shapes.specs.declared.told.Told.{Told}
-use Rattle.bus_shapes.specs.declared.told.Told.TheVariants.{Audit, Findings}
+use Rattle.bus_shapes.specs.declared.told.Told.TheVariants.{Audit, OnCable, Findings}
 use Rattle.bus_picture.specs.Measures.{plot_top, row_height}
 use Rattle.bus_picture.specs.Strings.{meets}
 
@@ -26,12 +26,13 @@ each_lane of k (lane ∷ lanes) = of k lane ++ each_lane of (k + 1) lanes
 abbrev pub is_in : Scale → Lane → Entry → Bool
 is_in scale lane x = x.terminal == lane.terminal && meets scale x.moment (end_of x)
 
--- Whether the first breach of an audit names this terminal. Findings name none: a fault is found at a transmission, whose lane has that to
--- show.
+-- Whether the first breach of an audit names this terminal. Of a trace that was recorded on a cable there is no audit, and findings name none:
+-- a fault is found at a transmission, whose lane has that to show.
 abbrev pub is_named : Told → ℕ → Bool
 is_named (Audit (Lawful collided)) n = false
 is_named (Audit (Breach moment terminal kind)) n = terminal == n
-is_named (Findings bounds judgements) n = false
+is_named (OnCable garbled) n = false
+is_named (Findings bounds judgements garbled) n = false
 
 -- Whether a lane has something to show: a transmission, or the first breach.
 abbrev pub has_some : Scale → Told → List Entry → Lane → Bool

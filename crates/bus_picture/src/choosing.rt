@@ -24,7 +24,8 @@ fn is_named(told: &Told, number: u8) -> bool
 {
     match told {
         Told::Audit(AuditAnswer::Breach { terminal, .. }) => *terminal == number,
-        Told::Audit(AuditAnswer::Lawful { .. }) | Told::Findings { .. } => false,
+        Told::Audit(AuditAnswer::Lawful { .. }) => false,
+        Told::OnCable { .. } | Told::Findings { .. } => false,
     }
 }
 

@@ -269,7 +269,8 @@ fn put_faults<K: Sink>(
     put_first(text, sink, scale, list, judgements);
 }
 
-/// The marks of what is told of a trace, of a table with this transmit interval: of the first breach, or of the faults of the list.
+/// The marks of what is told of a trace, of a table with this transmit interval: of the first breach, or of the faults of the list; none of
+/// one that was recorded on a cable.
 pub(crate) fn put_told<K: Sink>(
     text: &mut TextBuffer,
     sink: &mut K,
@@ -286,6 +287,7 @@ pub(crate) fn put_told<K: Sink>(
 {
     match told {
         Told::Audit(answer) => put_breach(text, sink, scale, lanes, answer),
+        Told::OnCable { .. } => {}
         Told::Findings { judgements, .. } => {
             let near = is_near(scale, ti);
             put_faults(text, sink, scale, near, lanes, list, judgements);

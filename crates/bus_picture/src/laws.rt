@@ -1,7 +1,7 @@
 //! Laws of the definitions, each the contract of a function that does nothing.
 ghost use Rattle.bus_picture.specs.GapLaws.{GapsAreAll, GapsAreTrue, LastGapsAreTrue, SyncGapsAreTrue};
 ghost use Rattle.bus_picture.specs.GapLaws.{IntervalsAreAll, IntervalsAreTrue, LastIntervalsAreTrue};
-ghost use Rattle.bus_picture.specs.FaultLaws.{FaultsAreMarked, FaultsHaveLanes, NoneIsMarked};
+ghost use Rattle.bus_picture.specs.FaultLaws.{CableIsUnmarked, FaultsAreMarked, FaultsHaveLanes, NoneIsMarked};
 ghost use Rattle.bus_picture.specs.OffsetLaws.{OffsetsAreMarked};
 ghost use Rattle.bus_picture.specs.Laws.{BoxesCoverNoQuiet, BoxesHoldRows, BoxesHoldTheirs, BoxesLieInRows, BreachesHideNoBox};
 ghost use Rattle.bus_picture.specs.Laws.{BusIsCounted, EachIsOnTheBus, IntervalWordsHideNoBox, LoadIsAShare, StrokesLieWithin, TailsAreQuiet};
@@ -136,3 +136,8 @@ pub fn faults_are_marked()
 {
     lanes_are_terminals();
 }
+
+/// In a time line of what was recorded on a cable nothing is marked: but for its frame it is that of a lawful trace.
+pub fn cable_is_unmarked()
+    ensures { CableIsUnmarked }
+{}

@@ -6,7 +6,7 @@ use Rattle.bus_regime.specs.Lines.{verdict_words}
 use Rattle.bus_table.specs.Tables.{Table}
 use Rattle.bus_shapes.specs.Classes.{Answer, Background, Fault, Note, rule_text, rules_text}
 use Rattle.bus_shapes.specs.Classes as classes
-use Rattle.bus_shapes.specs.Headings.{Told, Audit, Findings, told_heading, told_words, verdict_class, verdict_heading}
+use Rattle.bus_shapes.specs.Headings.{Told, Audit, OnCable, Findings, sending_words, told_heading, told_words, verdict_class, verdict_heading}
 use Rattle.bus_shapes.specs.Numbers.{parted}
 use Rattle.bus_shapes.specs.Sayings.{counted, table_words}
 use Rattle.bus_shapes.specs.Shapes.{Area, box_text, words_text}
@@ -53,7 +53,8 @@ fault_style = codes "<style>\n" ++ rule_text Fault ++ codes "@media(prefers-colo
 
 abbrev pub told_style : Told → List ℕ
 told_style (Audit answer) = []
-told_style (Findings bounds judgements) = fault_style
+told_style (OnCable garbled) = []
+told_style (Findings bounds judgements garbled) = fault_style
 
 -- The size of a picture of this height, and of its width, in pixels and in units. Browsers scale it to the width that they have for it.
 abbrev pub size_text : ℕ → List ℕ
@@ -67,11 +68,12 @@ title_text verdict told = codes "<title>" ++ verdict ++ codes "; " ++ told ++ co
 
 -- ---- the words above the plot
 -- What is shown of a trace: its moments, how many transmissions that is, and how many of these are garbled.
-abbrev pub counts_words : Counts → List ℕ
-counts_words counts =
+abbrev pub counts_words : Told → Counts → List ℕ
+counts_words told counts =
     codes "moments " ++ parted (decimal counts.from) ++ codes " to " ++ parted (decimal counts.to) ++ codes " of "
     ++ parted (decimal counts.horizon)
     ++ codes ": " ++ counted counts.shown (codes "transmission") ++ codes ", " ++ parted (decimal counts.garbled) ++ codes " garbled"
+    ++ sending_words told
 
 -- The background of a picture of this height.
 abbrev pub background : ℕ → Area
@@ -85,17 +87,17 @@ heads_text verdict told list =
     ++ words_text Answer left_margin answer_line (told_heading list told)
 
 -- The words of the table, and the counts. They have room for 151 letters, and with moments of ten digits and counts of seven are 141 at
--- most.
-abbrev pub facts_text : Table → Counts → List ℕ
-facts_text table counts =
+-- most, and 149 of a trace of which it is known what terminals hear.
+abbrev pub facts_text : Told → Table → Counts → List ℕ
+facts_text told table counts =
     words_text Note left_margin facts_line (table_words table)
-    ++ words_text classes.Counts right_margin facts_line (counts_words counts)
+    ++ words_text classes.Counts right_margin facts_line (counts_words told counts)
 
 -- All that stands before the plot of a picture of this height, of a list.
 abbrev pub frame_text : ℕ → TableVerdict → Told → Table → List Entry → Counts → List ℕ
 frame_text height verdict told table list counts =
     size_text height ++ title_text (verdict_words verdict) (told_words told) ++ style_text ++ told_style told ++ box_text Background (background height)
-    ++ heads_text verdict told list ++ facts_text table counts
+    ++ heads_text verdict told list ++ facts_text told table counts
 
 -- The end of a picture.
 abbrev pub tail_text : List ℕ

@@ -1,6 +1,6 @@
 -- The heading of a picture: what the verdict on the table comes to, and what is told of the trace, in words. Times are in bit times, and those
 -- of a cycle and of a breach in microseconds too.
-use Rattle.std.specs.Prelude.{ℕ, List, ◌++◌, codes, Option, Some, None}
+use Rattle.std.specs.Prelude.{ℕ, Bool, true, false, List, [], ◌++◌, codes, Option, Some, None, is_some, if◌then◌else◌}
 use Rattle.std.specs.Fmt.{decimal, signed_decimal}
 use Rattle.bus_strings.specs.Messages.{Entry}
 use Rattle.bus_strings.specs.Microseconds.{microseconds_unit}
@@ -22,7 +22,7 @@ use Rattle.bus_shapes.specs.Later.{later}
 use Rattle.bus_shapes.specs.Numbers.{parted, parted_microseconds}
 use Rattle.bus_shapes.specs.Sayings.{counted, plainly_counted}
 pub use Rattle.bus_shapes.specs.declared.told.Told.{Told}
-pub use Rattle.bus_shapes.specs.declared.told.Told.TheVariants.{Audit, Findings}
+pub use Rattle.bus_shapes.specs.declared.told.Told.TheVariants.{Audit, OnCable, Findings}
 
 -- ---- the verdict
 -- An acceptance: the shortest and the longest cycle, which in periodic mode are one.
@@ -77,17 +77,44 @@ answer_heading list (Breach moment terminal kind) =
     codes "BREACH at " ++ parted (decimal moment) ++ codes " (" ++ parted_microseconds moment ++ microseconds_unit ++ codes "): terminal "
     ++ decimal terminal ++ breach_words list moment terminal kind
 
--- ---- what is told of the trace
--- As a recording of a bus within bounds: these, and how many faults are found.
-abbrev pub findings_heading : Bounds → List Judgement → List ℕ
-findings_heading bounds judgements = within_words bounds ++ codes ": " ++ plainly_counted (fault_sum judgements) (codes "fault")
+-- ---- a cable
+-- How many receptions are garbled where terminals hear them.
+abbrev pub receptions_words : ℕ → List ℕ
+receptions_words garbled = counted garbled (codes "reception") ++ codes " garbled at terminals"
 
--- What an audit found in a list, or that.
+-- That the trace was recorded on a cable, of which an audit knows nothing: `diagnose` does.
+abbrev pub cable_heading : ℕ → List ℕ
+cable_heading garbled = codes "recorded on a cable, " ++ receptions_words garbled ++ codes ": see diagnose"
+
+-- Behind other words, how many receptions are garbled, where that is known.
+abbrev pub known_words : Option ℕ → List ℕ
+known_words None = []
+known_words (Some garbled) = codes ", " ++ receptions_words garbled
+
+-- ---- what is told of the trace
+-- As a recording of a bus within bounds: these, how many faults are found, and what is known of receptions.
+abbrev pub findings_heading : Bounds → List Judgement → Option ℕ → List ℕ
+findings_heading bounds judgements garbled =
+    within_words bounds ++ codes ": " ++ plainly_counted (fault_sum judgements) (codes "fault") ++ known_words garbled
+
+-- What an audit found in a list, or one of these.
 abbrev pub told_heading : List Entry → Told → List ℕ
 told_heading list (Audit answer) = answer_heading list answer
-told_heading list (Findings bounds judgements) = findings_heading bounds judgements.items
+told_heading list (OnCable garbled) = cable_heading garbled
+told_heading list (Findings bounds judgements garbled) = findings_heading bounds judgements.items garbled
 
 -- The same in a title, where an audit's is its line.
 abbrev pub told_words : Told → List ℕ
 told_words (Audit answer) = answer_words answer
-told_words (Findings bounds judgements) = findings_heading bounds judgements.items
+told_words (OnCable garbled) = cable_heading garbled
+told_words (Findings bounds judgements garbled) = findings_heading bounds judgements.items garbled
+
+-- Whether it is known what terminals hear of the trace.
+abbrev pub is_heard : Told → Bool
+is_heard (Audit answer) = false
+is_heard (OnCable garbled) = true
+is_heard (Findings bounds judgements garbled) = is_some garbled
+
+-- Behind a count of what is garbled: that it is so as it was sent, where it is known what terminals hear of it.
+abbrev pub sending_words : Told → List ℕ
+sending_words told = if is_heard told then codes " as sent" else []

@@ -16,6 +16,7 @@ use crate::measures::{
     ANSWER_LINE, FACTS_LINE, HEAD_LINE, LEFT_MARGIN, PICTURE_WIDTH, PIXEL, RIGHT_MARGIN,
 };
 use crate::number::put_parted;
+use crate::on_cable::put_as_sent;
 use crate::shapes::{begin_words, end_words, put_box};
 use crate::told::Told;
 use bus_outer::{Sink, TextBuffer};
@@ -135,7 +136,7 @@ fn put_told_style<K: Sink>(text: &mut TextBuffer, sink: &mut K, told: &Told)
     ensures { Adds K.held K.faults sink.old sink.new text.old text.new (definition.told_style told.now) }
 {
     match told {
-        Told::Audit(_) => text.put(sink, b""),
+        Told::Audit(_) | Told::OnCable { .. } => text.put(sink, b""),
         Told::Findings { .. } => put_fault_style(text, sink),
     }
 }
@@ -225,8 +226,8 @@ fn put_table<K: Sink>(text: &mut TextBuffer, sink: &mut K, table: &Table)
 }
 
 /// The counts.
-fn put_counts<K: Sink>(text: &mut TextBuffer, sink: &mut K, counts: &Counts)
-    ensures { Adds K.held K.faults sink.old sink.new text.old text.new (definition.counts_words counts.now) }
+fn put_counts<K: Sink>(text: &mut TextBuffer, sink: &mut K, told: &Told, counts: &Counts)
+    ensures { Adds K.held K.faults sink.old sink.new text.old text.new (definition.counts_words told.now counts.now) }
 {
     text.put(sink, b"moments ");
     put_parted(text, sink, counts.from);
@@ -239,6 +240,7 @@ fn put_counts<K: Sink>(text: &mut TextBuffer, sink: &mut K, counts: &Counts)
     text.put(sink, b", ");
     put_parted(text, sink, counts.garbled);
     text.put(sink, b" garbled");
+    put_as_sent(text, sink, told);
 }
 
 /// The words of the verdict, and of what is told of the trace.
@@ -261,14 +263,20 @@ fn put_heads<K: Sink>(
 }
 
 /// The words of the table, and the counts.
-fn put_facts<K: Sink>(text: &mut TextBuffer, sink: &mut K, table: &Table, counts: &Counts)
-    ensures { Adds K.held K.faults sink.old sink.new text.old text.new (definition.facts_text table.now counts.now) }
+fn put_facts<K: Sink>(
+    text: &mut TextBuffer,
+    sink: &mut K,
+    told: &Told,
+    table: &Table,
+    counts: &Counts,
+)
+    ensures { Adds K.held K.faults sink.old sink.new text.old text.new (definition.facts_text told.now table.now counts.now) }
 {
     begin_words(text, sink, Class::Note, LEFT_MARGIN, FACTS_LINE);
     put_table(text, sink, table);
     end_words(text, sink);
     begin_words(text, sink, Class::Counts, RIGHT_MARGIN, FACTS_LINE);
-    put_counts(text, sink, counts);
+    put_counts(text, sink, told, counts);
     end_words(text, sink);
 }
 
@@ -300,7 +308,7 @@ pub fn put_frame<K: Sink>(
     };
     put_box(text, sink, Class::Background, area);
     put_heads(text, sink, verdict, told, list);
-    put_facts(text, sink, table, counts);
+    put_facts(text, sink, told, table, counts);
 }
 
 /// Puts the end of a picture.

@@ -11,6 +11,7 @@ use crate::class::Class;
 use crate::frame::put_counted;
 use crate::later::later;
 use crate::number::{put_parted, put_parted_microseconds};
+use crate::on_cable::{put_known, put_on_cable};
 use crate::told::Told;
 use bus_audit::{AuditAnswer, BreachKind, put_answer};
 use bus_bounds::Bounds;
@@ -229,18 +230,20 @@ fn put_faults<K: Sink>(text: &mut TextBuffer, sink: &mut K, faults: u128)
     }
 }
 
-/// Puts bounds, and how many faults are found within them.
+/// Puts bounds, how many faults are found within them, and how many receptions are garbled, where that is known.
 fn put_findings<K: Sink>(
     text: &mut TextBuffer,
     sink: &mut K,
     bounds: Bounds,
     judgements: &[Judgement],
+    garbled: Option<u64>,
 )
-    ensures { Adds K.held K.faults sink.old sink.new text.old text.new (definition.findings_heading bounds judgements.now) }
+    ensures { Adds K.held K.faults sink.old sink.new text.old text.new (definition.findings_heading bounds judgements.now garbled) }
 {
     put_within(text, sink, bounds);
     text.put(sink, b": ");
     put_faults(text, sink, fault_sum(judgements));
+    put_known(text, sink, garbled);
 }
 
 /// Puts what is told of a trace, whose list this is.
@@ -254,7 +257,12 @@ pub(crate) fn put_told_heading<K: Sink>(
 {
     match told {
         Told::Audit(answer) => put_answer_heading(text, sink, list, answer),
-        Told::Findings { bounds, judgements } => put_findings(text, sink, *bounds, judgements),
+        Told::OnCable { garbled } => put_on_cable(text, sink, *garbled),
+        Told::Findings {
+            bounds,
+            judgements,
+            garbled,
+        } => put_findings(text, sink, *bounds, judgements, *garbled),
     }
 }
 
@@ -264,6 +272,11 @@ pub(crate) fn put_told<K: Sink>(text: &mut TextBuffer, sink: &mut K, told: &Told
 {
     match told {
         Told::Audit(answer) => put_answer(text, sink, answer),
-        Told::Findings { bounds, judgements } => put_findings(text, sink, *bounds, judgements),
+        Told::OnCable { garbled } => put_on_cable(text, sink, *garbled),
+        Told::Findings {
+            bounds,
+            judgements,
+            garbled,
+        } => put_findings(text, sink, *bounds, judgements, *garbled),
     }
 }

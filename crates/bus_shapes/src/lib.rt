@@ -21,6 +21,7 @@ mod later;
 pub mod laws;
 pub mod measures;
 mod number;
+mod on_cable;
 mod scale;
 mod sent;
 mod sents;

@@ -1,5 +1,5 @@
 -- The pictures, of what was taken for them.
-use Rattle.std.specs.Prelude.{◌≡◌, ℕ, List, Option}
+use Rattle.std.specs.Prelude.{◌≡◌, ℕ, true, List, Option}
 use Rattle.std.proofs.Common.{sym, ap, ◌∙◌}
 use Rattle.bus_regime.specs.declared.table_verdict.TableVerdict.{TableVerdict}
 use Rattle.bus_regime.specs.Verdicts.{verdict_of}
@@ -12,7 +12,7 @@ use Rattle.bus_trace.specs.Windows.{Window}
 use Rattle.bus_command.specs.Acts.{Ends, Leaves}
 use Rattle.bus_command.specs.Kinds.{Kind, NoForm, NotRead, TooMuch, Wrong, Late, NotWritten, NoRoom, Answer, kind_of}
 use Rattle.bus_command.specs.Outside.{Seen}
-use Rattle.bus_command.specs.Readers.{by_trace}
+use Rattle.bus_command.specs.Readers.{by_recorded}
 use Rattle.bus_dump.specs.declared.dump.Dump.{Dump}
 use Rattle.bus_dump.specs.DumpTexts.{dump_text}
 use Rattle.bus_regime.specs.Lines.{verdict_words}
@@ -51,7 +51,7 @@ leaves_map NoRoom P Q old new f l = l
 leaves_map Answer P Q old new f l = (l.0, f l.0 l.1, l.2)
 
 pub ends_map : (due o : Outcome) (P Q : List ℕ → Type 0) (old new : Seen) → ((text : List ℕ) → P text → Q text)
-    → Ends by_trace due P old new o → Ends by_trace due Q old new o
+    → Ends (by_recorded true) due P old new o → Ends (by_recorded true) due Q old new o
 ends_map due o P Q old new f e = record {
   stands = e.stands;
   text = leaves_map (kind_of o) P Q old.bytes new.bytes f e.text;

@@ -1,5 +1,5 @@
 -- What is claimed of the views.
-use Rattle.std.specs.Prelude.{◌≡◌, ℕ, Bool, false, ◌&&◌, List, [], ◌∷◌, codes, Option, Some, None, IfSome, Ok}
+use Rattle.std.specs.Prelude.{◌≡◌, ℕ, Bool, true, false, ◌&&◌, List, [], ◌∷◌, codes, Option, Some, None, IfSome, Ok}
 use Rattle.std.proofs.Common.{cond, refl, sym, ap, ◌∙◌, subst}
 use Rattle.bus_table.specs.Tables.{Table}
 use Rattle.bus_trace.specs.TraceLaws.{ReadsBack}
@@ -22,22 +22,25 @@ use Rattle.bus_command.specs.declared.about.About.TheVariants.{Help, Version}
 use Rattle.bus_command.specs.About.{TellsItself, IsAbout, about_word}
 use Rattle.bus_command.specs.Claims.{Answers}
 use Rattle.bus_command.specs.Stages.{refusal_in}
-use Rattle.bus_command.specs.Due.{text_due, table_refusal_of, with_trace, traced_due, any_trace}
+use Rattle.bus_command.specs.declared.recorded.Recorded.{Recorded}
+use Rattle.bus_command.specs.Due.{text_due, table_refusal_of, garbled_where, with_garbled, with_followed, recorded_due}
+use Rattle.bus_command.specs.Heard.{garbled_in}
 use Rattle.bus_command.specs.Kinds.{Answer, kind_of}
 use Rattle.bus_command.specs.Outside.{Call}
 use Rattle.bus_command.specs.declared.status.Status.TheVariants as status
 use Rattle.bus_command.specs.declared.outcome.Outcome.TheVariants.{Done}
-use Rattle.bus_command.specs.Readers.{Trace, entire, no_source, one_source, by_trace, text_limit}
+use Rattle.bus_command.specs.Readers.{OfTexts, entire, no_source, one_source, by_recorded, reader_of, text_limit}
 use Rattle.bus_command.proofs.ClaimLemmas.{answers, claimed, refuses, does_of, room_of, told_itself, at_one, at_two, stands_told}
 use Rattle.bus_command.proofs.LawTypes.{TextReadsAsItsTable}
-use Rattle.bus_command.proofs.ReadLemmas.{held_trace, traced_told}
+use Rattle.bus_command.proofs.ReadLemmas.{held_trace}
+use Rattle.bus_command.proofs.FollowedLemmas.{recorded_told, rest_behind}
 use Rattle.bus_command.proofs.TextLemmas.{short_text}
 use Rattle.bus_command.proofs.ToldLemmas.{table_told}
 use Rattle.bus_view.specs.Acts.{view_program, Acts}
-use Rattle.bus_view.specs.Claims.{view_word, AreFurther, AreForWindow, AreForAsked, AreOfAsked, AreOfBounds, IsPageOf, IsViewOf, GivesDump, Promises}
-use Rattle.bus_view.specs.Due.{first_breach, single_outcome, traced_answer, view_answer, drawing, painting, window_or_whole, IsJudging, IsOfView, IsPage, IsView, page, page_answer}
+use Rattle.bus_view.specs.Claims.{view_word, AreFurther, AreForWindow, AreForAsked, AreOfAsked, AreOfBounds, IsPageOf, IsPictureOf, IsViewOf, GivesDump, Promises}
+use Rattle.bus_view.specs.Due.{first_breach, single_outcome, recorded_answer, view_answer, drawing, painting, window_or_whole, IsJudging, IsOfView, IsPage, IsView, page, page_answer}
 use Rattle.bus_view.proofs.PageLaws.{page_answers}
-use Rattle.bus_view.specs.Forms.{Form, OnTrace, OnItself, Page, page_of, page_within, on_trace, View, Dump, SaveFile, Painted, Judged, Picture, TimeLine, Cycles, drawn, judged, three_words, view_of, window_of, form_of}
+use Rattle.bus_view.specs.Forms.{Form, OnTrace, OnItself, Page, page_of, page_within, on_trace, View, Dump, SaveFile, Painted, Judged, Picture, TimeLine, Cycles, drawn, judged, three_words, view_of, window_of, form_of, hears}
 use Rattle.bus_view.specs.Itself.{itself_text}
 use Rattle.bus_view.specs.Refusals.{Doubled, Outcome, ends_of, status_of}
 
@@ -110,30 +113,41 @@ pub record DrawLaws : Type 0 where
 -- what is due of texts that are told
 module _ (laws : DrawLaws) (view : View) (call : Call) (outcome : Outcome) (table : Table) (trace : Recording) (acts : Acts call outcome)
     (h : IsViewOf view table trace call) (sound : IsSound view) where
-  both_told : traced_due {R = Doubled} h.call_is.table_told.text h.call_is.trace_told.stream ≡ Ok (with_trace table trace)
+  -- what is told behind the trace
+  garbled : Option ℕ
+  garbled = garbled_where (hears view) trace h.call_is.trace_told.stream
+
+  value : Recorded
+  value = with_followed table (with_garbled trace garbled)
+
+  both_told : recorded_due {R = Doubled} (hears view) h.call_is.table_told.text h.call_is.trace_told.stream ≡ Ok value
   both_told =
-      traced_told {R = Doubled} any_trace table trace h.call_is.table_told.text h.call_is.trace_told.stream
+      recorded_told {R = Doubled} (hears view) table trace h.call_is.table_told.text h.call_is.trace_told.stream
       (table_told {R = Doubled} laws.table_again table call.before.sources.first h.call_is.table_told)
       (held_trace {R = Doubled} laws.trace_back h.call_is.trace_told.stream trace h.call_is.trace_told.stands)
+
+  sources : (P : List ℕ → List ℕ → Type 0) → OfTexts (by_recorded (hears view)) call.before.sources P
+      → P h.call_is.table_told.text h.call_is.trace_told.stream
+  sources =
+      at_two entire (reader_of (hears view)) call.before.sources h.call_is.table_told.text h.call_is.trace_told.stream h.call_is.table_told.told
+      h.call_is.trace_told.told
 
   did : Rattle.bus_command.specs.Acts.DoesForm view_program (OnTrace view) call.before call.after outcome
   did = does_of view_program call outcome (OnTrace view)
       (asked view call.words h.call_is.form.first h.call_is.form.second h.further h.call_is.form.form h.window sound) acts
 
-  pub shown : kind_of (view_answer view table trace) ≡ Answer
-      → Answers (status_of (view_answer view table trace)) (IsOfView view table trace) call (status_of outcome)
-  shown answer_is =
-      claimed ends_of (traced_answer view) (IsView view) by_trace table_refusal_of traced_due h.call_is.table_told.text h.call_is.trace_told.stream
-      (with_trace table trace) (IsOfView view table trace) call outcome
-      (at_two entire Trace call.before.sources h.call_is.table_told.text h.call_is.trace_told.stream h.call_is.table_told.told h.call_is.trace_told.told)
-      both_told answer_is (λ text is. is) did h.call_is.undisturbed
+  pub shown : (behind : Option ℕ) → ((text : List ℕ) → IsOfView view table trace garbled text → IsOfView view table trace behind text)
+      → kind_of (view_answer view table trace) ≡ Answer
+      → Answers (status_of (view_answer view table trace)) (IsOfView view table trace behind) call (status_of outcome)
+  shown behind shows answer_is =
+      claimed ends_of (recorded_answer view) (IsView view) (by_recorded (hears view)) table_refusal_of (recorded_due (hears view))
+      h.call_is.table_told.text h.call_is.trace_told.stream value (IsOfView view table trace behind) call outcome sources
+      both_told answer_is shows did h.call_is.undisturbed
 
   pub stands : Rattle.bus_command.specs.Stages.StandsFor (view_answer view table trace) outcome
   stands =
-      stands_told (traced_answer view) by_trace traced_due h.call_is.table_told.text h.call_is.trace_told.stream (with_trace table trace)
-      call.before.sources outcome
-      (at_two entire Trace call.before.sources h.call_is.table_told.text h.call_is.trace_told.stream h.call_is.table_told.told h.call_is.trace_told.told)
-      both_told did.due
+      stands_told (recorded_answer view) (by_recorded (hears view)) (recorded_due (hears view)) h.call_is.table_told.text
+      h.call_is.trace_told.stream value call.before.sources outcome sources both_told did.due
 
   pub does : Rattle.bus_command.specs.Acts.DoesForm view_program (OnTrace view) call.before call.after outcome
   does = did
@@ -146,11 +160,11 @@ draw_claim laws call outcome dump window table trace s acts h =
     record {
       drawn = λ none.
           subst (λ e. Answers (status_of (single_outcome e)) (λ text. text ≡ drawing dump shape table trace) call (status_of outcome)) none
-          (shown laws (Dump dump window) call outcome table trace acts h s (ap (λ e. kind_of (single_outcome e)) none));
+          (shown laws (Dump dump window) call outcome table trace acts h s None (λ text is. is) (ap (λ e. kind_of (single_outcome e)) none));
       breach = λ t. laws.breach dump (first_breach table trace) table trace.list t;
       refused = λ entry some.
           let did = does laws (Dump dump window) call outcome table trace acts h s in
-          refuses ends_of by_trace (single_outcome (Some entry)) outcome _ call refl
+          refuses ends_of (by_recorded false) (single_outcome (Some entry)) outcome _ call refl
           (subst (λ e. Rattle.bus_command.specs.Stages.StandsFor (single_outcome e) outcome) some
           (stands laws (Dump dump window) call outcome table trace acts h s))
           did.text did.counts did.out_count h.call_is.undisturbed;
@@ -160,16 +174,29 @@ draw_claim laws call outcome dump window table trace s acts h =
           (subst IsClear (sym is) (laws.closed table hands h.call_is.table_told.valid accepted even).clear);
     }
 
+-- what is told behind a trace is what stands there
+told_behind : (view : View) (table : Table) (trace : Recording) (garbled : Option ℕ) (call : Call) (h : IsPictureOf view table trace garbled call)
+    → garbled_where true trace h.is.call_is.trace_told.stream ≡ garbled
+told_behind view table trace garbled call h =
+    ap garbled_in (rest_behind h.is.call_is.trace_told.stream trace h.is.call_is.trace_told.stands) ∙ h.behind
+
 paint_claim : DrawLaws → (call : Call) (outcome : Outcome) (picture : Picture) (window : Option Window) (table : Table)
-    (trace : Recording) → IfSome window IsWindow → Acts call outcome → IsViewOf (Painted picture window) table trace call
-    → Answers status.Done (λ text. text ≡ painting picture (window_or_whole window trace) table trace) call (status_of outcome)
-paint_claim laws call outcome picture window table trace s acts h = shown laws (Painted picture window) call outcome table trace acts h s refl
+    (trace : Recording) (garbled : Option ℕ) → IfSome window IsWindow → Acts call outcome
+    → IsPictureOf (Painted picture window) table trace garbled call
+    → Answers status.Done (λ text. text ≡ painting picture (window_or_whole window trace) table trace garbled) call (status_of outcome)
+paint_claim laws call outcome picture window table trace garbled s acts h =
+    shown laws (Painted picture window) call outcome table trace acts h.is s garbled
+    (λ text is. subst (λ g. IsOfView (Painted picture window) table trace g text) (told_behind (Painted picture window) table trace garbled call h) is) refl
 
 judge_claim : DrawLaws → (call : Call) (outcome : Outcome) (picture : Picture) (bounds : Bounds) (window : Option Window) (table : Table)
-    (trace : Recording) → AreNear bounds → IfSome window IsWindow → Acts call outcome → IsViewOf (Judged picture bounds window) table trace call
-    → Answers status.Done (IsJudging picture bounds (window_or_whole window trace) table trace) call (status_of outcome)
-judge_claim laws call outcome picture bounds window table trace n s acts h =
-    shown laws (Judged picture bounds window) call outcome table trace acts h (n, s) refl
+    (trace : Recording) (garbled : Option ℕ) → AreNear bounds → IfSome window IsWindow → Acts call outcome
+    → IsPictureOf (Judged picture bounds window) table trace garbled call
+    → Answers status.Done (IsJudging picture bounds (window_or_whole window trace) table trace garbled) call (status_of outcome)
+judge_claim laws call outcome picture bounds window table trace garbled n s acts h =
+    shown laws (Judged picture bounds window) call outcome table trace acts h.is (n, s) garbled
+    (λ text is.
+        subst (λ g. IsOfView (Judged picture bounds window) table trace g text)
+        (told_behind (Judged picture bounds window) table trace garbled call h) is) refl
 
 -- ---- pages
 -- the plain decimals of bounds are these
@@ -216,9 +243,9 @@ itself_claim call outcome about acts h =
 pub keeps : DrawLaws → (call : Call) (outcome : Outcome) → Acts call outcome → Promises call (status_of outcome)
 keeps laws call outcome acts = record {
   draw = λ dump window table trace s h. draw_claim laws call outcome dump window table trace s acts h;
-  save = λ window table trace s h. shown laws (SaveFile window) call outcome table trace acts h s refl;
-  paint = λ picture window table trace s h. paint_claim laws call outcome picture window table trace s acts h;
-  judge = λ picture bounds window table trace n s h. judge_claim laws call outcome picture bounds window table trace n s acts h;
+  save = λ window table trace s h. shown laws (SaveFile window) call outcome table trace acts h s None (λ text is. is) refl;
+  paint = λ picture window table trace garbled s h. paint_claim laws call outcome picture window table trace garbled s acts h;
+  judge = λ picture bounds window table trace garbled n s h. judge_claim laws call outcome picture bounds window table trace garbled n s acts h;
   page = λ asked text h. page_claim call outcome asked text acts h;
   itself = λ about h. itself_claim call outcome about acts h;
 }

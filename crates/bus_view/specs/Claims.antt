@@ -21,6 +21,7 @@ use Rattle.bus_command.specs.declared.status.Status.TheVariants.{Done, InputRefu
 use Rattle.bus_command.specs.declared.about.About.{About}
 use Rattle.bus_command.specs.About.{IsAbout, TellsItself}
 use Rattle.bus_command.specs.Claims.{Answers, IsOfTraced, NothingFails, Refuses}
+use Rattle.bus_command.specs.Heard.{garbled_in}
 use Rattle.bus_command.specs.Outside.{Call}
 use Rattle.bus_command.specs.Readers.{entire, one_source, text_limit}
 use Rattle.bus_view.specs.Itself.{itself_text}
@@ -81,6 +82,11 @@ pub record IsViewOf (view : View) (table : Table) (trace : Recording) (call : Ca
   pub window : AreFurther view further
   pub call_is : IsOfTraced (view_word view) further table trace call
 
+-- A call of a picture, of a trace behind which so many receptions are told to be garbled, where a heard text stands there.
+pub record IsPictureOf (view : View) (table : Table) (trace : Recording) (garbled : Option ℕ) (call : Call) : Type 0 where
+  pub is : IsViewOf view table trace call
+  pub behind : garbled_in is.call_is.trace_told.stands.rest ≡ garbled
+
 -- What comes of a dump:
 --   drawn     where no entry is doubled, the dump of the trace is written, of all of it or of the window that is asked for, with the words
 --             of the table's verdict as its comment
@@ -128,8 +134,9 @@ pub record IsPageOf (asked : Option Bounds) (text : List ℕ) (call : Call) : Ty
 -- of which `itself` takes none:
 --   draw    `vcd`, `wires` and `timers`, and all three with a window: the dump, or that an entry is doubled
 --   save    `gtkw`, and with a window: the save file, with the first breach where the window holds its moment
---   paint   `svg` and `cycles`, and both with a window: the picture
---   judge   `svg` and `cycles` with bounds, and both with a window too: the picture with what is found
+--   paint   `svg` and `cycles`, and both with a window: the picture, with what an audit finds or, where a heard text stands behind the trace,
+--           with how many receptions are garbled in it
+--   judge   `svg` and `cycles` with bounds, and both with a window too: the picture with what is found, and with that
 --   page    `page` of any text, and with bounds: its page; the status is Done where the text gives a table that is accepted, else Refused
 --   itself  `--help` and `--version`: the help and the version line
 pub record Promises (call : Call) (status : Status) : Type 0 where
@@ -139,12 +146,12 @@ pub record Promises (call : Call) (status : Status) : Type 0 where
   pub save : (window : Option Window) (table : Table) (trace : Recording) → IfSome window IsWindow
       → IsViewOf (SaveFile window) table trace call
       → Answers Done (λ text. text ≡ saved (window_or_whole window trace) table trace) call status
-  pub paint : (picture : Picture) (window : Option Window) (table : Table) (trace : Recording) → IfSome window IsWindow
-      → IsViewOf (Painted picture window) table trace call
-      → Answers Done (λ text. text ≡ painting picture (window_or_whole window trace) table trace) call status
-  pub judge : (picture : Picture) (bounds : Bounds) (window : Option Window) (table : Table) (trace : Recording) → AreNear bounds
-      → IfSome window IsWindow → IsViewOf (Judged picture bounds window) table trace call
-      → Answers Done (IsJudging picture bounds (window_or_whole window trace) table trace) call status
+  pub paint : (picture : Picture) (window : Option Window) (table : Table) (trace : Recording) (garbled : Option ℕ) → IfSome window IsWindow
+      → IsPictureOf (Painted picture window) table trace garbled call
+      → Answers Done (λ text. text ≡ painting picture (window_or_whole window trace) table trace garbled) call status
+  pub judge : (picture : Picture) (bounds : Bounds) (window : Option Window) (table : Table) (trace : Recording) (garbled : Option ℕ)
+      → AreNear bounds → IfSome window IsWindow → IsPictureOf (Judged picture bounds window) table trace garbled call
+      → Answers Done (IsJudging picture bounds (window_or_whole window trace) table trace garbled) call status
   pub page : (asked : Option Bounds) (text : List ℕ) → IsPageOf asked text call
       → Answers (status_of (page_answer text)) (λ written. written ≡ page asked text) call status
   pub itself : (about : About) → IsAbout about call → TellsItself (itself_text about) call status

@@ -20,17 +20,17 @@ use Rattle.bus_dump.specs.DumpTexts.{dump_text}
 use Rattle.bus_dump.specs.declared.breach.FirstBreach.{FirstBreach}
 use Rattle.bus_dump.specs.SaveFiles.{save_text}
 use Rattle.bus_shapes.specs.declared.told.Told.{Told}
-use Rattle.bus_shapes.specs.declared.told.Told.TheVariants.{Audit, Findings}
+use Rattle.bus_shapes.specs.declared.told.Told.TheVariants.{Audit, OnCable, Findings}
 use Rattle.bus_trace.specs.Windows.{Window, whole}
 use Rattle.bus_picture.specs.TimeLines.{time_line_text}
 use Rattle.bus_cycles.specs.CyclesTexts.{cycles_text}
-use Rattle.bus_command.specs.declared.inputs.Traced.{Traced}
+use Rattle.bus_command.specs.declared.recorded.Recorded.{Recorded}
 use Rattle.bus_command.specs.declared.outcome.Outcome.TheVariants.{Answered, Done}
-use Rattle.bus_command.specs.Due.{table_refusal_of, text_due, traced_due, outcome_with, IsTextOf}
+use Rattle.bus_command.specs.Due.{table_refusal_of, text_due, recorded_due, outcome_with, IsTextOf}
 use Rattle.bus_command.specs.Stages.{refusal_in}
 use Rattle.bus_page.specs.Pages.{page_text}
 use Rattle.bus_view.specs.Itself.{itself_text, version_text}
-use Rattle.bus_view.specs.Forms.{Form, OnTrace, OnItself, Page, View, Dump, SaveFile, Painted, Judged, Picture, TimeLine, Cycles}
+use Rattle.bus_view.specs.Forms.{Form, OnTrace, OnItself, Page, View, Dump, SaveFile, Painted, Judged, Picture, TimeLine, Cycles, hears}
 use Rattle.bus_view.specs.Refusals.{Outcome, refuse}
 
 -- A trace of which no entry is doubled is answered, another refused.
@@ -46,12 +46,12 @@ view_answer (Painted picture window) table trace = Done
 view_answer (Judged picture bounds window) table trace = Done
 
 -- The same to what was taken of both texts.
-abbrev pub traced_answer : View → Traced → Outcome
-traced_answer view traced = view_answer view traced.table traced.trace
+abbrev pub recorded_answer : View → Recorded → Outcome
+recorded_answer view recorded = view_answer view recorded.table recorded.trace
 
 -- The outcome of a view.
 abbrev pub view_due : View → List ℕ → List ℕ → Outcome
-view_due view first second = outcome_with (traced_answer view) (traced_due first second)
+view_due view first second = outcome_with (recorded_answer view) (recorded_due (hears view) first second)
 
 -- The moment of a breach, where an audit found one.
 abbrev pub breach_moment : AuditAnswer → Option ℕ
@@ -71,16 +71,22 @@ unfoldable pub painted : Picture → Window → TableVerdict → Told → Table 
 painted TimeLine window verdict told table trace = time_line_text window verdict told table trace
 painted Cycles window verdict told table trace = cycles_text window verdict told table trace
 
--- With the table's own verdict, and what an audit finds of the trace.
-abbrev pub painting : Picture → Window → Table → Recording → List ℕ
-painting picture window table trace = painted picture window (verdict_of table) (Audit (answer_of table trace)) table trace
+-- What is told of a trace: what an audit finds, or that it was recorded on a cable, where it is known how many receptions are garbled.
+abbrev pub told_of : Table → Recording → Option ℕ → Told
+told_of table trace None = Audit (answer_of table trace)
+told_of table trace (Some garbled) = OnCable garbled
 
--- With the table's own verdict, and what is found at each transmission of the trace, as in a recording of a bus of the table within bounds.
-pub record IsJudging (picture : Picture) (bounds : Bounds) (window : Window) (table : Table) (trace : Recording)
+-- With the table's own verdict, and that.
+abbrev pub painting : Picture → Window → Table → Recording → Option ℕ → List ℕ
+painting picture window table trace garbled = painted picture window (verdict_of table) (told_of table trace garbled) table trace
+
+-- With the table's own verdict, what is found at each transmission of the trace, as in a recording of a bus of the table within bounds, and
+-- how many receptions are garbled, where that is known.
+pub record IsJudging (picture : Picture) (bounds : Bounds) (window : Window) (table : Table) (trace : Recording) (garbled : Option ℕ)
     (text : List ℕ) : Type 0 where
   pub found : Vec Judgement Global
   pub found_is : found.items ≡ judgements bounds table trace.list
-  pub text_is : text ≡ painted picture window (verdict_of table) (Findings bounds found) table trace
+  pub text_is : text ≡ painted picture window (verdict_of table) (Findings bounds found garbled) table trace
 
 -- A breach with the terminal that it names, where an audit found one.
 abbrev pub breach_of : AuditAnswer → Option FirstBreach
@@ -99,20 +105,21 @@ saved window table trace = save_text window (named_breach table trace) table tra
 abbrev pub window_or_whole : Option Window → Recording → Window
 window_or_whole window trace = unwrap_or window (whole trace.horizon)
 
--- The text of a view of a trace on a table.
-abbrev pub IsOfView : View → Table → Recording → List ℕ → Type 0
-IsOfView (Dump dump window) table trace text = text ≡ drawing dump (window_or_whole window trace) table trace
-IsOfView (SaveFile window) table trace text = text ≡ saved (window_or_whole window trace) table trace
-IsOfView (Painted picture window) table trace text = text ≡ painting picture (window_or_whole window trace) table trace
-IsOfView (Judged picture bounds window) table trace text = IsJudging picture bounds (window_or_whole window trace) table trace text
+-- The text of a view of a trace on a table, behind which it is told how many receptions are garbled, or isn't.
+abbrev pub IsOfView : View → Table → Recording → Option ℕ → List ℕ → Type 0
+IsOfView (Dump dump window) table trace garbled text = text ≡ drawing dump (window_or_whole window trace) table trace
+IsOfView (SaveFile window) table trace garbled text = text ≡ saved (window_or_whole window trace) table trace
+IsOfView (Painted picture window) table trace garbled text = text ≡ painting picture (window_or_whole window trace) table trace garbled
+IsOfView (Judged picture bounds window) table trace garbled text =
+    IsJudging picture bounds (window_or_whole window trace) table trace garbled text
 
 -- The text of a view of what was taken of both texts.
-abbrev pub IsView : View → Traced → List ℕ → Type 0
-IsView view traced text = IsOfView view traced.table traced.trace text
+abbrev pub IsView : View → Recorded → List ℕ → Type 0
+IsView view recorded text = IsOfView view recorded.table recorded.trace recorded.garbled text
 
 -- What a view writes of both texts.
 abbrev pub IsViewText : View → List ℕ → List ℕ → List ℕ → Type 0
-IsViewText view first second text = IsTextOf (traced_answer view) (IsView view) (traced_due first second) text
+IsViewText view first second text = IsTextOf (recorded_answer view) (IsView view) (recorded_due (hears view) first second) text
 
 -- ---- pages
 -- Yes where a table is accepted, else no.

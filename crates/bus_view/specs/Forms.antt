@@ -11,7 +11,7 @@ use Rattle.bus_trace.specs.Windows.{Window}
 use Rattle.bus_bounds.specs.Bounds.{Bounds}
 use Rattle.bus_command.specs.About.{about_of}
 use Rattle.bus_command.specs.Bounding.{are_bounds, bounds_of, most_near_delay, near_bounds_of}
-use Rattle.bus_command.specs.Readers.{Named, entire, no_source, one_source, by_trace}
+use Rattle.bus_command.specs.Readers.{Named, entire, no_source, one_source, by_recorded}
 pub use Rattle.bus_view.specs.declared.forms.Form.{Form}
 pub use Rattle.bus_view.specs.declared.forms.Form.TheVariants.{OnTrace, OnItself, Page}
 pub use Rattle.bus_view.specs.declared.forms.Picture.{Picture}
@@ -131,9 +131,16 @@ IsWithinLimits (OnTrace view) = IsNear view
 IsWithinLimits (OnItself about) = Unit {0}
 IsWithinLimits (Page asked) = Unit {0}
 
+-- Whether a view shows what stands behind a trace: a picture tells what terminals hear of it.
+abbrev pub hears : View → Bool
+hears (Dump dump window) = false
+hears (SaveFile window) = false
+hears (Painted picture window) = true
+hears (Judged picture bounds window) = true
+
 -- The sources that a form names.
 abbrev pub sources_of : Form → Named
-sources_of (OnTrace view) = by_trace
+sources_of (OnTrace view) = by_recorded (hears view)
 sources_of (OnItself about) = no_source
 sources_of (Page asked) = one_source entire
 

@@ -1,8 +1,10 @@
 //! The command of any words.
+ghost use Rattle.std.specs.Prelude.{◌≡◌};
 ghost use Rattle.bus_command.specs.Outside.{call};
 ghost use Rattle.bus_trace.specs.Traces.{IsTrace};
 ghost use Rattle.bus_view.specs.Acts.{Acts};
-ghost use Rattle.bus_view.specs.inside.Acting.{DoesBoth, EndsOnView};
+ghost use Rattle.bus_view.specs.inside.Acting.{DoesBoth, EndsOnRecorded};
+ghost use Rattle.bus_view.specs.Forms as forms;
 ghost use Rattle.bus_view.specs.Forms.{OnTrace, IsNear};
 
 use crate::drawing::draw;
@@ -12,7 +14,7 @@ use crate::paging::page;
 use crate::painting::{paint, paint_judged};
 use crate::refusal::{Doubled, Outcome};
 use crate::saving::save;
-use bus_command::{Traced, take_traced};
+use bus_command::{Recorded, take_recorded};
 use bus_outer::{Sink, Source};
 use bus_strings::laws::texts_read_as_their_items;
 use bus_table::Table;
@@ -21,18 +23,35 @@ use bus_trace::Trace;
 use bus_trace::laws::traces_read_back;
 use std::alloc::Global;
 
-/// Writes this view of a trace on a table.
-fn answer<K: Sink>(alloc: Global, view: View, table: &Table, trace: &Trace, out: &mut K) -> Outcome
+/// Whether a view shows what stands behind a trace: a picture tells what terminals hear of it.
+fn hears(view: &View) -> bool
+    ensures { result ≡ forms.hears view.now }
+{
+    match view {
+        View::Dump(..) | View::SaveFile(_) => false,
+        View::Picture(..) | View::Judged(..) => true,
+    }
+}
+
+/// Writes this view of a trace on a table, behind which so many receptions are told to be garbled, where that is known.
+fn answer<K: Sink>(
+    alloc: Global,
+    view: View,
+    table: &Table,
+    trace: &Trace,
+    garbled: Option<u64>,
+    out: &mut K,
+) -> Outcome
     requires trace { IsTrace trace.now }
     requires near { IsNear view }
-    ensures { EndsOnView ⟦<K as Sink>⟧ view table.now trace.now out.old out.new result }
+    ensures { EndsOnRecorded ⟦<K as Sink>⟧ view table.now trace.now garbled out.old out.new result }
 {
     match view {
         View::Dump(dump, window) => draw(alloc, dump, window, table, trace, out),
         View::SaveFile(window) => save(alloc, window, table, trace, out),
-        View::Picture(picture, window) => paint(alloc, picture, window, table, trace, out),
+        View::Picture(picture, window) => paint(alloc, picture, window, table, trace, garbled, out),
         View::Judged(picture, bounds, window) => {
-            paint_judged(alloc, picture, bounds, window, table, trace, out)
+            paint_judged(alloc, picture, bounds, window, table, trace, garbled, out)
         }
     }
 }
@@ -48,8 +67,14 @@ fn show<S: Source, K: Sink>(
     requires near { IsNear view }
     ensures { DoesBoth ⟦<S as Source>⟧ ⟦<K as Sink>⟧ (OnTrace view) first.old second.old out.old first.new second.new out.new result }
 {
-    match take_traced::<Doubled, S>(alloc, first, second) {
-        Ok(Traced { table, trace }) => answer(alloc, view, &table, &trace, out),
+    match take_recorded::<Doubled, S>(alloc, hears(&view), first, second) {
+        Ok(
+            Recorded {
+                table,
+                trace,
+                garbled,
+            },
+        ) => answer(alloc, view, &table, &trace, garbled, out),
         Err(outcome) => outcome,
     }
 }

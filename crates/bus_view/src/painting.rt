@@ -1,15 +1,15 @@
 //! The pictures.
-ghost use Rattle.std.specs.Prelude.{◌≡◌, ◌≤◌};
+ghost use Rattle.std.specs.Prelude.{◌≡◌, ◌≤◌, true};
 ghost use Rattle.bus_command.specs.Acts.{Ends};
 ghost use Rattle.bus_command.specs.Bounding.{most_near_delay};
 ghost use Rattle.bus_command.specs.Outside.{sink_seen};
-ghost use Rattle.bus_command.specs.Readers.{by_trace};
+ghost use Rattle.bus_command.specs.Readers.{by_recorded};
 ghost use Rattle.bus_command.specs.declared.outcome.Outcome.TheVariants.{Done};
 ghost use Rattle.bus_load.specs.Loads.{IsCarrierOf};
 ghost use Rattle.bus_outer.specs.Sinks.{WritesText};
 ghost use Rattle.bus_regime.specs.Verdicts.{verdict_of};
 ghost use Rattle.bus_trace.specs.Traces.{IsTrace};
-ghost use Rattle.bus_view.specs.inside.Acting.{EndsOnView};
+ghost use Rattle.bus_view.specs.inside.Acting.{EndsOnRecorded, EndsOnView};
 ghost use Rattle.bus_view.specs.Due.{painted, window_or_whole};
 ghost use Rattle.bus_view.specs.Forms.{Painted, Judged};
 
@@ -61,7 +61,7 @@ fn paint_told<K: Sink>(
     trace: &Trace,
     out: &mut K,
 ) -> Outcome
-    ensures { Ends by_trace Done
+    ensures { Ends (by_recorded true) Done
         (λ text. text ≡ painted picture (window_or_whole window trace.now) (verdict_of table.now) told.now table.now trace.now)
         (sink_seen ⟦<K as Sink>⟧ out.old) (sink_seen ⟦<K as Sink>⟧ out.new) result }
 {
@@ -79,7 +79,7 @@ fn paint_told<K: Sink>(
 }
 
 /// Writes this picture of a trace on a table, with what an audit finds; of a window of it, or of all.
-pub fn paint<K: Sink>(
+fn paint_audited<K: Sink>(
     alloc: Global,
     picture: Picture,
     window: Option<Window>,
@@ -99,8 +99,31 @@ pub fn paint<K: Sink>(
     }
 }
 
-/// Writes this picture of a trace on a table, with what is found in it as in a recording of a bus within bounds; of a window of it, or of
-/// all.
+/// Writes this picture of a trace on a table, with what an audit finds or, where it is known how many receptions are garbled, with that;
+/// of a window of it, or of all.
+pub fn paint<K: Sink>(
+    alloc: Global,
+    picture: Picture,
+    window: Option<Window>,
+    table: &Table,
+    trace: &Trace,
+    garbled: Option<u64>,
+    out: &mut K,
+) -> Outcome
+    requires { IsTrace trace.now }
+    ensures { EndsOnRecorded ⟦<K as Sink>⟧ (Painted picture window) table.now trace.now garbled out.old out.new result }
+{
+    match garbled {
+        Some(garbled) => {
+            let told = Told::OnCable { garbled };
+            paint_told(alloc, picture, window, &told, table, trace, out)
+        }
+        None => paint_audited(alloc, picture, window, table, trace, out),
+    }
+}
+
+/// Writes this picture of a trace on a table, with what is found in it as in a recording of a bus within bounds, and with how many
+/// receptions are garbled, where that is known; of a window of it, or of all.
 pub fn paint_judged<K: Sink>(
     alloc: Global,
     picture: Picture,
@@ -108,14 +131,19 @@ pub fn paint_judged<K: Sink>(
     window: Option<Window>,
     table: &Table,
     trace: &Trace,
+    garbled: Option<u64>,
     out: &mut K,
 ) -> Outcome
     requires near { bounds.delay ≤ most_near_delay }
-    ensures { EndsOnView ⟦<K as Sink>⟧ (Judged picture bounds window) table.now trace.now out.old out.new result }
+    ensures { EndsOnRecorded ⟦<K as Sink>⟧ (Judged picture bounds window) table.now trace.now garbled out.old out.new result }
 {
     match judgements(alloc, table, trace, bounds) {
         Ok(judgements) => {
-            let told = Told::Findings { bounds, judgements };
+            let told = Told::Findings {
+                bounds,
+                judgements,
+                garbled,
+            };
             paint_told(alloc, picture, window, &told, table, trace, out)
         }
         Err(_) => Outcome::NoMemory,

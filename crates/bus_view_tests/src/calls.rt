@@ -38,10 +38,15 @@ fn sink(rt: &HostRuntime, room: usize) -> Result<MemorySink, Fail> {
     Ok(MemorySink::new(rt.alloc(), room, 200, Vec::new(rt.alloc()))?)
 }
 
-/// A source of this text that never fails.
-fn source(rt: &HostRuntime, text: &str) -> Result<MemorySource, Fail> {
+/// A source of this text, which gives it in pieces and fails at these pulls.
+fn source(
+    rt: &HostRuntime,
+    text: &str,
+    piece: usize,
+    failing: &[u64],
+) -> Result<MemorySource, Fail> {
     let bytes = text.as_bytes().to_vec(rt.alloc())?;
-    Ok(MemorySource::new(bytes, 4096, Vec::new(rt.alloc())))
+    Ok(MemorySource::new(bytes, piece, failing.to_vec(rt.alloc())?))
 }
 
 /// A call of these words over these texts.
@@ -51,11 +56,24 @@ pub(crate) fn run_on(
     first: &str,
     second: &str,
 ) -> Result<Ran, Fail> {
+    run_pulled(rt, words, first, second, 4096, &[])
+}
+
+/// The same, where the second text comes in pieces and its source fails at these pulls.
+pub(crate) fn run_pulled(
+    rt: &HostRuntime,
+    words: &[&str],
+    first: &str,
+    second: &str,
+    piece: usize,
+    failing: &[u64],
+) -> Result<Ran, Fail> {
     let mut all = Vec::new(rt.alloc());
     for word in words {
         all.push(String::from_str(rt.alloc(), *word)?)?;
     }
-    let (mut first, mut second) = (source(rt, first)?, source(rt, second)?);
+    let mut first = source(rt, first, 4096, &[])?;
+    let mut second = source(rt, second, piece, failing)?;
     let (mut out, mut err) = (sink(rt, 400_000)?, sink(rt, 200)?);
     let status = view(
         rt.alloc(),

@@ -18,6 +18,8 @@ mod late;
 #[cfg(test)]
 mod line;
 #[cfg(test)]
+mod on_cable;
+#[cfg(test)]
 mod page;
 #[cfg(test)]
 mod paint;
