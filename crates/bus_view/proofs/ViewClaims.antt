@@ -195,8 +195,8 @@ judge_claim : DrawLaws → (call : Call) (outcome : Outcome) (picture : Picture)
 judge_claim laws call outcome picture bounds window table trace garbled n s acts h =
     shown laws (Judged picture bounds window) call outcome table trace acts h.is (n, s) garbled
     (λ text is.
-        subst (λ g. IsOfView (Judged picture bounds window) table trace g text)
-        (told_behind (Judged picture bounds window) table trace garbled call h) is) refl
+    subst (λ g. IsOfView (Judged picture bounds window) table trace g text)
+    (told_behind (Judged picture bounds window) table trace garbled call h) is) refl
 
 -- ---- pages
 -- the plain decimals of bounds are these
