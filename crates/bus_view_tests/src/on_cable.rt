@@ -83,16 +83,16 @@ fn findings_count_it_too(rt: HostRuntime) -> Result<(), Fail> {
         let words = [command, "T", "R", "9", "2", "0"];
         let ran = run_behind(&rt, &words, HEARD)?;
         let parts = [
-            "WITHIN 9 2 0: 2 faults, 3 receptions garbled at terminals</text>",
+            "WITHIN 9 2 0: 1 fault, 3 receptions garbled at terminals</text>",
             "2 transmissions, 0 garbled as sent</text>",
         ];
         assert!(rt; shows(&ran, &parts));
-        assert!(rt; is_unaudited(&ran));
+        assert!(rt; !contains(ran.out.bytes(), "BREACH"));
         let alone = run_behind(&rt, &words, "")?;
         assert!(rt;
             shows(
                 &alone,
-                &["WITHIN 9 2 0: 2 faults</text>", "0 garbled</text>"]
+                &["WITHIN 9 2 0: 1 fault</text>", "0 garbled</text>"]
             )
         );
     }
