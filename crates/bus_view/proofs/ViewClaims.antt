@@ -114,11 +114,11 @@ pub record DrawLaws : Type 0 where
 module _ (laws : DrawLaws) (view : View) (call : Call) (outcome : Outcome) (table : Table) (trace : Recording) (acts : Acts call outcome)
     (h : IsViewOf view table trace call) (sound : IsSound view) where
   -- what is told behind the trace
-  garbled : Option ℕ
-  garbled = garbled_where (hears view) trace h.call_is.trace_told.stream
+  abbrev known : Option ℕ
+  known = garbled_where (hears view) trace h.call_is.trace_told.stream
 
-  value : Recorded
-  value = with_followed table (with_garbled trace garbled)
+  abbrev value : Recorded
+  value = with_followed table (with_garbled trace known)
 
   both_told : recorded_due {R = Doubled} (hears view) h.call_is.table_told.text h.call_is.trace_told.stream ≡ Ok value
   both_told =
@@ -136,7 +136,7 @@ module _ (laws : DrawLaws) (view : View) (call : Call) (outcome : Outcome) (tabl
   did = does_of view_program call outcome (OnTrace view)
       (asked view call.words h.call_is.form.first h.call_is.form.second h.further h.call_is.form.form h.window sound) acts
 
-  pub shown : (behind : Option ℕ) → ((text : List ℕ) → IsOfView view table trace garbled text → IsOfView view table trace behind text)
+  pub shown : (behind : Option ℕ) → ((text : List ℕ) → IsOfView view table trace known text → IsOfView view table trace behind text)
       → kind_of (view_answer view table trace) ≡ Answer
       → Answers (status_of (view_answer view table trace)) (IsOfView view table trace behind) call (status_of outcome)
   shown behind shows answer_is =
