@@ -142,7 +142,11 @@ module _ (laws : DrawLaws) (view : View) (call : Call) (outcome : Outcome) (tabl
   shown behind shows answer_is =
       claimed ends_of (recorded_answer view) (IsView view) (by_recorded (hears view)) table_refusal_of (recorded_due (hears view))
       h.call_is.table_told.text h.call_is.trace_told.stream value (IsOfView view table trace behind) call outcome sources
-      both_told answer_is shows did h.call_is.undisturbed
+      both_told answer_is shows did (record {
+        first = h.call_is.undisturbed.first;
+        second = h.call_is.undisturbed.second;
+        out = h.call_is.undisturbed.out;
+      })
 
   pub stands : Rattle.bus_command.specs.Stages.StandsFor (view_answer view table trace) outcome
   stands =
