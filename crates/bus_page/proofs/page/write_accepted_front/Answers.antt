@@ -14,7 +14,7 @@ use Rattle.bus_page.proofs.page.write_accepted_front.Goals as goal
 
 pub returns : goal.returns
 returns g c =
-    let text : TableVerdict → Bounds → Option ℕ → List ℕ = λ v b d. head_text v ++ heading_text true ++ verdict_text v ++ figures_text b c.args.table.now c.args.figures.now.least c.args.figures.now.most d ++ pictures_text c.args.asked.now c.args.table.now c.args.figures.now.least c.args.figures.now.most ++ resting_text ++ section_text (codes "What it means") ++ codes "<pre>" in
+    let text : TableVerdict → Bounds → Option ℕ → List ℕ = λ v b d. head_text v ++ heading_text true ++ verdict_text v ++ figures_text b c.args.table.now c.args.figures.now.least c.args.figures.now.most d ++ pictures_text c.args.asked.now c.args.table.now c.args.figures.now.least c.args.figures.now.most ++ resting_text ++ section_text (codes "What it means") ++ codes "<pre class=\"said\">" in
     ends_text g.K.Sink.held g.K.Sink.faults c.args.sink.now c.put.new.sink c.finish.new.sink c.new-text.result c.put.new.self c.finish.result _ c.finish.ensures
     (subst (λ (t : List ℕ). Adds g.K.Sink.held g.K.Sink.faults c.args.sink.now c.put.new.sink c.new-text.result c.put.new.self t)
     (ap (λ (x : TableVerdict). text x c.bounds_of.result c.args.figures.now.tolerance) (c.requires.verdict)
