@@ -38,7 +38,7 @@ fn sink(rt: &HostRuntime, room: usize) -> Result<MemorySink, Fail> {
     Ok(MemorySink::new(rt.alloc(), room, 200, Vec::new(rt.alloc()))?)
 }
 
-/// A source of this text, which gives it in pieces and fails at these pulls.
+/// A source of this text, which gives it in pieces of at least a byte and fails at these pulls.
 fn source(
     rt: &HostRuntime,
     text: &str,
@@ -46,7 +46,7 @@ fn source(
     failing: &[u64],
 ) -> Result<MemorySource, Fail> {
     let bytes = text.as_bytes().to_vec(rt.alloc())?;
-    Ok(MemorySource::new(bytes, piece, failing.to_vec(rt.alloc())?))
+    Ok(MemorySource::new(bytes, piece.max(1), failing.to_vec(rt.alloc())?))
 }
 
 /// A call of these words over these texts.

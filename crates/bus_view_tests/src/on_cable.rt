@@ -178,7 +178,7 @@ fn a_pull_behind_the_trace_may_fail(rt: HostRuntime) -> Result<(), Fail> {
         assert!(rt; shows(&ran, &[TOLD]));
     }
     let lines = text.as_str().lines().count() as u64;
-    for pull in [11, 12, lines - 1] {
+    for pull in [11, 12, lines.saturating_sub(1)] {
         let ran = run_pulled(&rt, &["svg", "T", "R"], TABLE, text.as_str(), 4096, &[pull])?;
         assert!(rt; ran.status == Status::ReadFault);
         assert!(rt; ran.out.bytes().is_empty());
