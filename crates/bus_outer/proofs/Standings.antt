@@ -8,6 +8,7 @@ use Rattle.bus_outer.specs.Sinks.{Written, WritesText}
 use Rattle.bus_outer.specs.Standing.{Stands}
 use Rattle.bus_outer.specs.inside.Buffers.{Sends}
 use Rattle.bus_outer.specs.Texts.{Adds, Ends}
+use Rattle.bus_outer.specs.Waiting.{waiting}
 use Rattle.bus_outer.proofs.WriteLaws.{written_on, written_longer}
 use Rattle.bus_outer.specs.declared.text_buffer.TextBuffer.{TextBuffer}
 
@@ -74,15 +75,15 @@ sends_part held faults k k' bytes x w = record {
 
 -- the buffer and more bytes were sent
 pub adds_sent : {K : Type 0} (held : K → Option (List ℕ)) (faults : K → ℕ) (k k' : K) (a b : TextBuffer) (bytes more : List ℕ)
-    → Sends held faults k k' a.failed b.failed bytes → bytes ≡ a.buffer.items ++ more → b.buffer.items ≡ []
+    → Sends held faults k k' a.failed b.failed bytes → bytes ≡ waiting a.buffer ++ more → waiting b.buffer ≡ []
     → Adds held faults k k' a b more
 adds_sent held faults k k' a b bytes more s e w = record {
-  goes = λ start text h. rw w (s.goes start a.buffer.items more text e h);
+  goes = λ start text h. rw w (s.goes start (waiting a.buffer) more text e h);
 }
 
 -- what is put is written where no write failed
 pub ends_ok : {K T E : Type 0} (held : K → Option (List ℕ)) (faults : K → ℕ) (k k' : K) (a b : TextBuffer) (x : T)
-    → Adds held faults k k' a b [] → b.buffer.items ≡ [] → b.failed ≡ false → Ends {E = E} held faults k k' a (Ok x)
+    → Adds held faults k k' a b [] → waiting b.buffer ≡ [] → b.failed ≡ false → Ends {E = E} held faults k k' a (Ok x)
 ends_ok held faults k k' a b x p w f = record {
   ends = λ start text h.
       let s = p.goes start text h in

@@ -6,5 +6,6 @@ pub mod Memory
 pub mod Ahead
 pub mod Edge
 pub mod Standing
+pub mod Waiting
 pub mod Texts
 pub mod inside

@@ -22,16 +22,17 @@ use Rattle.std.specs.declared.option.Option.{Option}
 use Rattle.std.specs.declared.result.Result.{Result}
 use Rattle.bus_outer.specs.Sinks.{WritesText}
 use Rattle.bus_outer.specs.Standing.{Stands}
+use Rattle.bus_outer.specs.Waiting.{waiting}
 use Rattle.bus_outer.specs.declared.text_buffer.TextBuffer.{TextBuffer}
 
 -- Nothing is put yet, and no write has failed.
 pub record IsFresh (t : TextBuffer) : Type 0 where
-  pub empty : t.buffer.items ≡ []
+  pub empty : waiting t.buffer ≡ []
   pub sound : t.failed ≡ false
 
 -- Since the sink was `start`, this text was put.
 abbrev pub TextIs : {K : Type 0} → (K → Option (List ℕ)) → (K → ℕ) → K → K → TextBuffer → List ℕ → Type 0
-TextIs held faults start now t text = Stands held faults start now t.buffer.items t.failed text
+TextIs held faults start now t text = Stands held faults start now (waiting t.buffer) t.failed text
 
 -- Whether a write has failed, so that no more of the text is taken.
 abbrev pub has_failed : TextBuffer → Bool

@@ -31,6 +31,7 @@ mod steady_source;
 #[cfg(test)]
 mod tests;
 mod text_buffer;
+mod waiting;
 mod whole;
 
 pub use count_sink::CountSink;

@@ -10,8 +10,8 @@ use crate::piece::copy_piece;
 use std::io;
 use std::io::Read;
 
-/// How many bytes are read ahead at most.
-const AHEAD: usize = 16384;
+/// How many bytes are read ahead at most: no more, since each source sets so many to zero at the start of a command.
+const AHEAD: usize = 4096;
 
 /// A reader, and the bytes of it that were read ahead: those from `at` up to `end`.
 #[derive(Drop)]

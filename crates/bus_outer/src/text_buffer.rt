@@ -2,14 +2,12 @@
 ghost use Rattle.std.specs.Prelude.{◌≡◌, [], ◌∷◌, length, decimal};
 ghost use Rattle.std.specs.Fmt.{signed_decimal};
 ghost use Rattle.bus_outer.specs.Texts.{IsFresh, Adds, Ends, has_failed};
+ghost use Rattle.bus_outer.specs.Waiting.{waiting};
 ghost use Rattle.bus_outer.specs.inside.Buffers.{Sends};
 
+use crate::waiting::Waiting;
 use crate::{Sink, WriteFault, write_all};
-use arrayvec::ArrayVec;
 use itoa::{Buffer, Integer};
-
-/// How many bytes wait at most: a push per few kilobytes, whatever the fields are.
-const SIZE: usize = 4096;
 
 /// A text on its way to a sink, which is passed to each call. It takes no memory.
 ///
@@ -17,7 +15,7 @@ const SIZE: usize = 4096;
 /// asks once. `specs/Texts.antt` has the words for its contracts and shows how a writer is stated.
 #[derive(Drop)]
 pub struct TextBuffer {
-    buffer: ArrayVec<u8, SIZE>,
+    buffer: Waiting,
     failed: bool,
 }
 
@@ -27,7 +25,7 @@ impl TextBuffer {
         ensures { IsFresh result }
     {
         TextBuffer {
-            buffer: ArrayVec::new(),
+            buffer: Waiting::new(),
             failed: false,
         }
     }
@@ -36,11 +34,10 @@ impl TextBuffer {
     pub fn put<K: Sink>(&mut self, sink: &mut K, bytes: &[u8])
         ensures { Adds K.held K.faults sink.old sink.new self.old self.new bytes.now }
     {
-        if self.buffer.try_extend_from_slice(bytes).is_ok() {
-            return;
+        if !self.buffer.keep(bytes) {
+            self.drain(sink);
+            self.pass(sink, bytes);
         }
-        self.drain(sink);
-        self.pass(sink, bytes);
     }
 
     /// Adds one byte.
@@ -83,21 +80,20 @@ impl TextBuffer {
     /// Writes the buffer.
     fn drain<K: Sink>(&mut self, sink: &mut K)
         ensures adds { Adds K.held K.faults sink.old sink.new self.old self.new [] }
-        ensures empty { self.new.buffer.items ≡ [] }
+        ensures empty { waiting self.new.buffer ≡ [] }
     {
-        self.failed = send(sink, self.failed, self.buffer.as_slice());
+        self.failed = send(sink, self.failed, self.buffer.bytes());
         self.buffer.clear();
     }
 
     /// Adds bytes where the buffer is empty.
     fn pass<K: Sink>(&mut self, sink: &mut K, bytes: &[u8])
-        requires { self.old.buffer.items ≡ [] }
+        requires { waiting self.old.buffer ≡ [] }
         ensures { Adds K.held K.faults sink.old sink.new self.old self.new bytes.now }
     {
-        if self.buffer.try_extend_from_slice(bytes).is_ok() {
-            return;
+        if !self.buffer.keep(bytes) {
+            self.failed = send(sink, self.failed, bytes);
         }
-        self.failed = send(sink, self.failed, bytes);
     }
 }
 

@@ -3,7 +3,11 @@ use Rattle.std.proofs.Common.{arith, zero, suc, ◌≡◌, ℕ, ◌+◌, ◌<◌
 use Rattle.std.proofs.Common.{refl, ◌∙◌}
 use Rattle.std.specs.Char.{is_ascii_hexdigit, digit_value}
 use Rattle.std.proofs.lemmas.Bool.{and_parts, eqb-true}
-use Rattle.bus_text.specs.Digits.{is_capital_digit}
+use Rattle.std.specs.Prelude.{map, ◌*◌, ◌/◌, ◌%◌}
+use Rattle.std.specs.List.{range_with_len}
+use Rattle.std.proofs.lemmas.List.FromFn.{get_or-map-range_with_len}
+use Rattle.bus_text.specs.Digits.{is_capital_digit, hexadecimal}
+use Rattle.bus_text.specs.declared.digits.TheConstants.{PAIRS}
 use Rattle.bus_text.proofs.DigitLaws.{digit_value-lt}
 use Rattle.bus_text.proofs.NumberLaws.{hex_value-lt}
 
@@ -49,3 +53,28 @@ hexadecimal_most byte v e = by (is_ascii_hexdigit byte) (hex_value-lt byte) e wh
   by : (t : Bool) → (t ≡ true → digit_value byte < 16) → v ≡ cond t (digit_value byte) 61 → v ≤ 61
   by true h e = omega (arith, e, h refl)
   by false h e = omega (arith, e)
+
+-- The digit at a place of the table of pairs.
+abbrev digit_at : ℕ → ℕ
+digit_at place = get_or (hexadecimal 2 (place / 2)) (place % 2) 0
+
+pairs_are : PAIRS ≡ map digit_at (range_with_len 0 512)
+pairs_are = refl
+
+at_place : (place : ℕ) → place < 512 → get_or PAIRS place 0 ≡ digit_at place
+at_place place h = ap (λ table. get_or table place 0) pairs_are ∙ get_or-map-range_with_len digit_at 0 512 place place 0 h (omega arith)
+
+-- The two digits of a byte stand in the table one behind the other.
+pub pair_at : (byte : ℕ) → byte < 256 → get_or PAIRS (2 * byte) 0 ∷ get_or PAIRS (2 * byte + 1) 0 ∷ [] ≡ hexadecimal 2 byte
+pair_at byte h = rw (at_place (2 * byte) (omega (arith, h)), at_place (2 * byte + 1) (omega (arith, h)), even byte, none byte, odd byte, one byte) refl where
+  even : (n : ℕ) → 2 * n / 2 ≡ n
+  even n = omega arith
+
+  none : (n : ℕ) → 2 * n % 2 ≡ 0
+  none n = omega arith
+
+  odd : (n : ℕ) → (2 * n + 1) / 2 ≡ n
+  odd n = omega arith
+
+  one : (n : ℕ) → (2 * n + 1) % 2 ≡ 1
+  one n = omega arith
