@@ -122,7 +122,7 @@ fn both(alloc: Global, first: &Wordstring, second: Wordstring) -> Result<Strings
     let _ranges_too = second.words();
     let bits = WORD_BITS * (first.word_count() + second.word_count()) + INNER_GAP;
     let mut strings = Vec::with_capacity(alloc, 2)?;
-    strings.push(first.copy(alloc)?)?;
+    strings.push(first.copy()?)?;
     strings.push(second)?;
     Ok(Strings::Many { bits, strings })
 }
@@ -132,12 +132,12 @@ pub fn copy_message(alloc: Global, message: &Message) -> Result<Message, AllocEr
     ensures { IfOk result (λ m. m ≡ message.now) }
 {
     if let Strings::One { string, .. } = &message.strings {
-        return Ok(Message::one(alloc, string.copy(alloc)?));
+        return Ok(Message::one(alloc, string.copy()?));
     }
     let from = message.strings();
     let mut strings = Vec::with_capacity(alloc, from.len())?;
     for string in from {
-        strings.push(string.copy(alloc)?)?;
+        strings.push(string.copy()?)?;
     }
     Ok(Message {
         strings: Strings::Many {

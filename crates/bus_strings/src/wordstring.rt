@@ -9,6 +9,7 @@ use crate::limits::MOST_WORDS;
 use bus_words::{Ext, Label};
 use std::alloc::{AllocError, AllocFailed, Global};
 use std::marker::Model;
+use std::rc::Rc;
 
 /// As many data words as a wordstring keeps in itself, in no memory of their own.
 pub const SHORT: usize = 9;
@@ -23,7 +24,7 @@ pub struct Wordstring {
 }
 
 /// Where the data words are. Lists of short messages are what takes most memory, so each case has at most 24 bytes: its own label and
-/// extension, which then take no room beside the words, and no more than two words of the machine.
+/// extension, which then take no room beside the words, and no more than two words of the machine. Words in memory are shared by all copies.
 #[derive(Debug, Drop)]
 enum Kept {
     // The first so many of these.
@@ -38,12 +39,12 @@ enum Kept {
         label: Label,
         ext: Ext,
         count: u8,
-        words: Box<[u16; MIDDLE]>,
+        words: Rc<[u16; MIDDLE]>,
     },
     Long {
         label: Label,
         ext: Ext,
-        words: Box<Vec<u16>>,
+        words: Rc<Vec<u16>>,
     },
 }
 
@@ -93,7 +94,7 @@ fn middle(alloc: Global, label: Label, ext: Ext, words: &[u16]) -> Result<Kept, 
         label,
         ext,
         count: words.len() as u8,
-        words: Box::new(alloc, room)?,
+        words: Rc::new(alloc, room)?,
     })
 }
 
@@ -114,7 +115,7 @@ fn long(
     Ok(Kept::Long {
         label,
         ext,
-        words: Box::new(alloc, words)?,
+        words: Rc::new(alloc, words)?,
     })
 }
 
@@ -146,7 +147,7 @@ impl Wordstring {
         Ok(Some(Wordstring { kept }))
     }
 
-    /// Of at most 256 data words. Up to [`SHORT`] of them take no memory, up to 48 one block of 96 bytes, and more what they need and the
+    /// Of at most 256 data words. Up to [`SHORT`] of them take no memory, up to 48 one block of 112 bytes, and more what they need and the
     /// place of a `Vec`.
     pub fn of(
         alloc: Global,
@@ -234,8 +235,8 @@ impl Wordstring {
         }
     }
 
-    /// An equal wordstring.
-    pub(crate) fn copy(&self, alloc: Global) -> Result<Wordstring, AllocError>
+    /// An equal wordstring. It takes no memory: what this one has in memory serves both.
+    pub(crate) fn copy(&self) -> Result<Wordstring, AllocError>
         ensures { IfOk result (λ s. s ≡ self.now) }
     {
         let kept = match &self.kept {
@@ -259,12 +260,12 @@ impl Wordstring {
                 label: *label,
                 ext: *ext,
                 count: *count,
-                words: Box::new(alloc, **words)?,
+                words: words.clone()?,
             },
             Kept::Long { label, ext, words } => Kept::Long {
                 label: *label,
                 ext: *ext,
-                words: Box::new(alloc, Vec::from_slice(alloc, words)?)?,
+                words: words.clone()?,
             },
         };
         Ok(Wordstring { kept })
