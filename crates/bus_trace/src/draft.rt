@@ -354,7 +354,7 @@ impl Draft {
         ) {
             return Ok(None);
         }
-        let Some((string, rest)) = string_line(alloc, text)? else {
+        let Some((string, rest)) = string_line(alloc, text, feed)? else {
             return Ok(None);
         };
         let Some(rest) = behind_end(rest, feed) else {

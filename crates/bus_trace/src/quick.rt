@@ -1,6 +1,6 @@
 //! Lines that are spelled as they are written, recognized in front of a text in one pass: neither their end is looked for first, nor is a
 //! field of them gathered. What isn't recognized here is judged field by field.
-ghost use Rattle.std.specs.Prelude.{◌≡◌, ◌≤◌, ◌<◌, ◌^◌, ◌++◌, ◌∷◌, [], length, take, decimal, IfSome, IfOk};
+ghost use Rattle.std.specs.Prelude.{◌≡◌, ◌+◌, ◌≤◌, ◌<◌, ◌^◌, ◌++◌, ◌∷◌, [], length, take, decimal, IfSome, IfOk};
 ghost use Rattle.std.specs.List.{join_with_byte};
 ghost use Rattle.bus_text.specs.Digits.{hexadecimal};
 ghost use Rattle.bus_strings.specs.Limits.{most_words};
@@ -24,16 +24,6 @@ const MIDDLE: usize = 48;
 /// The bytes of the data words of a line, each with the space before it.
 const MOST_DATA: usize = PLACES * MOST_WORDS;
 
-/// What is behind a word at the front.
-fn behind<'a>(text: &'a [u8], word: &[u8]) -> Option<&'a [u8]>
-    ensures { IfSome result (λ r. text.now ≡ word.now ++ r.now) }
-{
-    if text.len() < word.len() || &text[..word.len()] != word {
-        return None;
-    }
-    Some(&text[word.len()..])
-}
-
 /// The plain decimal at the front, and what is behind it.
 fn first_number(text: &[u8]) -> Option<(u64, &[u8])>
     ensures { IfSome result (λ r. (text.now ≡ decimal r.0 ++ r.1.now) × (r.0 < 10 ^ 18)) }
@@ -50,9 +40,13 @@ fn first_number(text: &[u8]) -> Option<(u64, &[u8])>
 pub(crate) fn begin_line(text: &[u8]) -> Option<(u64, u64, &[u8])>
     ensures { IfSome result (λ r. text.now ≡ join_with_byte 32 (begin_fields r.0 r.1) ++ r.2.now) }
 {
-    let rest = behind(text, b"TX ")?;
+    let [b'T', b'X', b' ', rest @ ..] = text else {
+        return None;
+    };
     let (moment, rest) = first_number(rest)?;
-    let rest = behind(rest, b" ")?;
+    let [b' ', rest @ ..] = rest else {
+        return None;
+    };
     let (terminal, rest) = first_number(rest)?;
     Some((moment, terminal, rest))
 }
@@ -62,7 +56,9 @@ pub(crate) fn begin_line(text: &[u8]) -> Option<(u64, u64, &[u8])>
 pub(crate) fn close_line(text: &[u8]) -> Option<(u64, bool, &[u8])>
     ensures { IfSome result (λ r. text.now ≡ join_with_byte 32 (ended_line r.0 r.1) ++ r.2.now) }
 {
-    let rest = behind(text, b"TE ")?;
+    let [b'T', b'E', b' ', rest @ ..] = text else {
+        return None;
+    };
     let (end, rest) = first_number(rest)?;
     match rest {
         [b' ', b'-', rest @ ..] => Some((end, false, rest)),
@@ -75,16 +71,12 @@ pub(crate) fn close_line(text: &[u8]) -> Option<(u64, bool, &[u8])>
 fn four_digit_value(a: u8, b: u8, c: u8, d: u8) -> Option<u16>
     ensures { IfSome result (λ v. hexadecimal 4 v ≡ a ∷ b ∷ c ∷ d ∷ []) }
 {
-    let (a, b, c, d) = (
-        capital_value(a),
-        capital_value(b),
-        capital_value(c),
-        capital_value(d),
-    );
-    if a + b + c + d >= NO_CAPITAL {
+    let (a, b) = (u32::from(capital_value(a)), u32::from(capital_value(b)));
+    let (c, d) = (u32::from(capital_value(c)), u32::from(capital_value(d)));
+    if a + b + c + d >= u32::from(NO_CAPITAL) {
         return None;
     }
-    Some(256 * u16::from(16 * a + b) + u16::from(16 * c + d))
+    Some((4096 * a + 256 * b + 16 * c + d) as u16)
 }
 
 /// The value of a word of a kind. Its parity digit is held to the one that its value has: a branch that went by the digit itself, which
@@ -188,26 +180,59 @@ fn data_string(
     }
 }
 
+/// Whether four words may stand at a place, each behind a space.
+fn are_spaced(text: &[u8], at: usize) -> bool
+    requires { at + 28 ≤ length text.now }
+{
+    text[at] == b' '
+        && text[at + PLACES] == b' '
+        && text[at + 2 * PLACES] == b' '
+        && text[at + 3 * PLACES] == b' '
+}
+
+/// How many bytes of the text in front may be data words of one line, each behind a space, four at a time.
+fn fours_length(text: &[u8]) -> usize
+    ensures within { result ≤ length text.now }
+{
+    let mut at = 0;
+    while at < MOST_DATA && at + 4 * PLACES <= text.len() && are_spaced(text, at) {
+        at += 4 * PLACES;
+    }
+    at
+}
+
 /// How many bytes of the text in front may be data words of one line, each behind a space.
 fn data_length(text: &[u8]) -> usize
     ensures within { result ≤ length text.now }
 {
-    let mut at = 0;
+    let mut at = fours_length(text);
     while at < MOST_DATA && at + PLACES <= text.len() && text[at] == b' ' {
         at += PLACES;
     }
     at
 }
 
-/// The wordstring of a WS line in front, and what is behind it.
+/// What is behind the keyword of a WS line.
+#[inline(always)]
+fn behind_keyword(text: &[u8]) -> Option<&[u8]>
+    ensures { IfSome result (λ rest. text.now ≡ 87 ∷ 83 ∷ rest.now) }
+{
+    match text {
+        [b'W', b'S', rest @ ..] => Some(rest),
+        _ => None,
+    }
+}
+
+/// The wordstring of a WS line in front, and what is behind it. Of a line that is cut off no word is read.
 #[inline(always)]
 pub(crate) fn string_line(
     alloc: Global,
     text: &[u8],
+    feed: bool,
 ) -> Result<Option<(Wordstring, &[u8])>, AllocError>
     ensures { IfOk result (λ o. IfSome o (λ r. text.now ≡ join_with_byte 32 (string_fields r.0) ++ r.1.now)) }
 {
-    let Some(text) = behind(text, b"WS") else {
+    let Some(text) = behind_keyword(text) else {
         return Ok(None);
     };
     if text.len() < PLACES {
@@ -219,6 +244,9 @@ pub(crate) fn string_line(
     let (label, ext) = split_label(label);
     let text = &text[PLACES..];
     let length = data_length(text);
+    if behind_end(&text[length..], feed).is_none() {
+        return Ok(None);
+    }
     let Some(string) = data_string(alloc, label, ext, &text[..length])? else {
         return Ok(None);
     };
