@@ -1,19 +1,20 @@
 -- What is looked up by a key.
-use Rattle.std.proofs.Common.{arith, zero, suc, ◌≡◌, ℕ, ◌+◌, ◌<◌, ◌&&◌, ◌==◌, Bool, true, false, not, cond, List, [], ◌∷◌, ◌++◌, length, take, get_or, map}
-use Rattle.std.proofs.Common.{refl, ap, sym, ◌∙◌, subst}
+use Rattle.std.proofs.Common.{arith, zero, suc, ◌≡◌, ℕ, ◌+◌, ◌-◌, ◌<◌, ◌≤◌, ◌&&◌, ◌==◌, Bool, true, false, not, cond, List, [], ◌∷◌, ◌++◌, length, take, get_or, map}
+use Rattle.std.proofs.Common.{refl, ap, sym, ◌∙◌, subst, append-nil}
 use Rattle.std.specs.List.{filter, flat_map, sum_by, zip}
 use Rattle.std.specs.Option.{option_map_or}
 use Rattle.std.proofs.lemmas.Bool.{ne_eqb}
-use Rattle.std.proofs.lemmas.List.{take_more, get_or-map, map-append, length-map}
+use Rattle.std.proofs.lemmas.List.{take_more, get_or_default, get_or-map, map-append, length-map}
 use Rattle.std.proofs.lemmas.Option.{slice_get_within}
 use Rattle.std.proofs.lemmas.Slice.Zip.{get_or-zip, length-zip}
 use Rattle.bus_strings.specs.Messages.{Wordstring, Entry}
 use Rattle.bus_strings.specs.Transmissions.{marks}
+use Rattle.bus_strings.proofs.ListLaws.{flat_map-more}
 use Rattle.bus_strings.proofs.MarkLaws.{length-marks}
 use Rattle.bus_table.specs.declared.line.TakeLine.{TakeLine}
 use Rattle.bus_filter.specs.Received.{Taker, ReceivedLine, matches, received_line, string_lines, entry_lines, is_heard}
 use Rattle.bus_filter.specs.ReceivedTexts.{line_text}
-use Rattle.bus_filter.specs.inside.Keys.{AreSpans, AreKeys, key, message_key, of_label, key_count, silent}
+use Rattle.bus_filter.specs.inside.Keys.{AreSpans, AreKeys, NoneTaken, key, message_key, of_label, key_count, silent}
 use Rattle.bus_filter.specs.inside.Putting.{string_put, entry_put, marked_put, string_count, marked_count}
 use Rattle.bus_filter.proofs.PutLemmas.{string_is, marked_is}
 use Rattle.bus_filter.proofs.CountLemmas.{string_counted, marked_counted}
@@ -171,3 +172,34 @@ low_more some more k e low before i = subst (λ (t : List ℕ). get_or t i 0 < k
   pushed [] k (suc i) low before = before i
   pushed (y ∷ some) k zero low before = before zero
   pushed (y ∷ some) k (suc i) low before = pushed some k i low (λ j. before (suc j))
+
+-- what no line takes of gives nothing
+none_put : (taker : Taker) (list : List Entry) (given first behind : List ℕ) (from n : ℕ) → AreSpans taker.takes (length taker.takes) first behind → AreKeys given list
+    → from + n ≤ length list → NoneTaken behind given from (from + n)
+    → flat_map (marked_put taker) (take (from + n) (zip list (marks list))) ≡ flat_map (marked_put taker) (take from (zip list (marks list)))
+none_put taker list given first behind from zero spans have within none =
+    ap (λ k. flat_map (marked_put taker) (take k (zip list (marks list)))) (plus from) where
+      plus : (k : ℕ) → k + 0 ≡ k
+      plus k = omega arith
+none_put taker list given first behind from (suc n) spans have within none =
+    let none_yet : Entry = record { moment = 0; terminal = 0; message = [] } in
+    let x : Entry = get_or list (from + n) none_yet in
+    let here : from + n < length list = omega (arith, within) in
+    let is : x ≡ get_or list (from + n) x = get_or_default list (from + n) none_yet x here in
+    ap (λ k. flat_map (marked_put taker) (take k (zip list (marks list)))) (next from n)
+    ∙ sym (flat_map-more (marked_put taker) (take (from + n) (zip list (marks list))) _ (x, marked_at list (from + n)) (next_pair list (from + n) x here is))
+    ∙ ap (λ t. flat_map (marked_put taker) (take (from + n) (zip list (marks list))) ++ t)
+    (put_skipped taker x (marked_at list (from + n)) (get_or given (from + n) 0) first behind spans (key_at list given (from + n) x have here is) (none (from + n) (omega arith) (omega arith)))
+    ∙ append-nil _
+    ∙ none_put taker list given first behind from n spans have (omega (arith, within)) (λ k low high. none k low (omega (arith, high))) where
+      next : (a b : ℕ) → a + suc b ≡ a + b + 1
+      next a b = omega arith
+
+pub skips : (taker : Taker) (list : List Entry) (given first behind : List ℕ) (from to : ℕ) → AreSpans taker.takes (length taker.takes) first behind → AreKeys given list
+    → from ≤ to → to ≤ length list → NoneTaken behind given from to
+    → flat_map (marked_put taker) (take to (zip list (marks list))) ≡ flat_map (marked_put taker) (take from (zip list (marks list)))
+skips taker list given first behind from to spans have order within none =
+    ap (λ k. flat_map (marked_put taker) (take k (zip list (marks list)))) (parts from to order)
+    ∙ none_put taker list given first behind from (to - from) spans have (omega (arith, order, within)) (λ k low high. none k low (omega (arith, order, high))) where
+      parts : (a b : ℕ) → a ≤ b → b ≡ a + (b - a)
+      parts a b h = omega (arith, h)

@@ -21,6 +21,7 @@ mod keys;
 pub mod laws;
 mod matching;
 mod receiver;
+mod skipping;
 mod spans;
 mod writing;
 

@@ -63,6 +63,15 @@ pub(crate) fn spans_of(takes: &[TakeLine]) -> Spans
     spans
 }
 
+/// Nothing where no line takes of what has this key.
+pub(crate) fn weight(spans: &Spans, key: u16) -> u32
+    requires { key < key_count }
+    ensures value { result ≡ get_or spans.now.behind key 0 }
+    ensures most { result < 256 }
+{
+    u32::from(spans.behind[usize::from(key)])
+}
+
 /// Whether a line can take of what has this key.
 pub(crate) fn is_taken(spans: &Spans, key: u16) -> bool
     requires { key < key_count }

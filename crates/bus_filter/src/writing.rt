@@ -13,6 +13,7 @@ ghost use Rattle.bus_filter.specs.inside.Keys.{key as key_in, key_count, AreKeys
 use crate::digits::{four_bytes, head_bytes, word_bytes};
 use crate::keys::{Keys, gathered, key};
 use crate::matching::{matches, selection};
+use crate::skipping::next_taken;
 use crate::spans::{Spans, is_taken, lines_of, spans_of};
 use bus_outer::{Sink, TextBuffer, WriteFault};
 use bus_strings::{Marks, Transmission, Wordstring};
@@ -198,8 +199,10 @@ fn put_gathered<K: Sink>(
     ensures { let taker : Taker = record { number = number; takes = takes.now } in
         Adds K.held K.faults sink.old sink.new text.old text.new (flat_map (marked_put taker) (zip list.now (marks list.now))) }
 {
-    for at in 0..list.len() {
+    let mut at = next_taken(spans, keys, 0);
+    while at < list.len() {
         put_keyed(text, sink, number, takes, spans, keys[at], &list[at]);
+        at = next_taken(spans, keys, at + 1);
     }
 }
 

@@ -58,3 +58,7 @@ pub record AreSpans (takes : List TakeLine) (n : ℕ) (first behind : List ℕ) 
   pub bound : (label : ℕ) → label < several → get_or behind label 0 ≤ n
   pub several_taken : 0 < get_or behind several 0
   pub silent_skipped : get_or behind silent 0 ≡ 0
+
+-- From one index up to another no line takes of what has the key.
+abbrev pub NoneTaken : List ℕ → List ℕ → ℕ → ℕ → Type 0
+NoneTaken behind keys from to = (k : ℕ) → from ≤ k → k < to → get_or behind (get_or keys k 0) 0 ≡ 0
