@@ -53,6 +53,15 @@ soon_more first next ks i k so at less small j v below v_at = elim (cases_eq i j
   | inr other ↦ let old : first ≤ v.soon = so j v (omega arith) v_at in omega arith
 ]
 
+pub soon_set : (first next : ℕ) (ks : List Keep) (i : ℕ) (k : Keep) → SoonSoFar first ks i → i < length ks → next ≤ first → next ≤ k.soon
+    → SoonSoFar next (set ks i k) (i + 1)
+soon_set first next ks i k so within less small j v below at = elim (cases_eq i j) [
+  | inl here ↦
+      let same : k.soon ≡ v.soon = ap (λ (x : Keep). x.soon) (same_some k v (sym (get_set_same ks i k within) ∙ ap (slice_get (set ks i k)) here ∙ at)) in
+      omega arith
+  | inr other ↦ let old : first ≤ v.soon = so j v (omega arith) (sym (get_set_other ks i j k other) ∙ at) in omega arith
+]
+
 pub soon_all : (h : Heard) (first : ℕ) (ks : List Keep) (i : ℕ) → SoonSoFar first ks i → length ks ≤ i → AreEarly h ks → NotSooner first (watches_of h ks)
 soon_all h first ks i so past early j w at left =
     let k = keep_at h ks j w at in
