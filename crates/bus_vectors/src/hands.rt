@@ -17,8 +17,8 @@ fn message(alloc: Global, number: u32, round: u32, i: u8) -> Result<Message, All
     ensures { IfOk result (λ message. message ≡ message_of (made_sender i).sends (made_item number round i).strings) }
 {
     let line = send_line(i);
-    let words = words(alloc, number, round, i)?;
-    let string = Wordstring::of(alloc, line.label, line.ext, &words)?;
+    let words = words(number, round, i);
+    let string = Wordstring::of(alloc, line.label, line.ext, words.as_slice())?;
     Ok(Message::one(alloc, string))
 }
 

@@ -1,7 +1,8 @@
 //! The messages of a number.
-ghost use Rattle.std.specs.Prelude.{◌≡◌, ◌≤◌, ◌++◌, map, IfOk, OnOk};
+ghost use Rattle.std.specs.Prelude.{◌≡◌, ◌≤◌, ◌++◌, map, take, IfOk, OnOk};
 ghost use Rattle.std.specs.List.{range_with_len};
 ghost use Rattle.bus_vectors.specs.Made as made;
+ghost use Rattle.bus_vectors.specs.declared.items.TheConstants.{LONGEST};
 ghost use Rattle.bus_vectors.specs.Made.{most_number, made_word, made_words, made_item, made_round, made_items};
 
 use crate::tables::sender_count;
@@ -33,16 +34,34 @@ fn longest(number: u32, round: u32, i: u8) -> [u16; LONGEST]
     words
 }
 
-/// The data words of sender `i` in a round. Their number is known before they are made, so that they are copied at once.
-pub(crate) fn words(alloc: Global, number: u32, round: u32, i: u8) -> Result<Vec<u16>, AllocError>
+/// The data words of a message: the first `count` of these.
+#[derive(Clone, Copy, Debug)]
+pub(crate) struct DataWords {
+    longest: [u16; LONGEST],
+    count: usize,
+    ghost within: { count ≤ LONGEST },
+}
+
+impl DataWords {
+    /// These words.
+    pub(crate) fn as_slice(&self) -> &[u16]
+        ensures { result.now ≡ take self.now.count self.now.longest }
+    {
+        &self.longest[..self.count]
+    }
+}
+
+/// The data words of sender `i` in a round. They take no memory.
+pub(crate) fn words(number: u32, round: u32, i: u8) -> DataWords
     requires number { number ≤ most_number }
     requires round { round ≤ 500 }
-    ensures { IfOk result (λ words. words.items ≡ made_words number round i) }
+    ensures { take result.count result.longest ≡ made_words number round i }
 {
     let count = 30 + (number + round + u32::from(i)) % 11;
-    let longest = longest(number, round, i);
-    let words = &longest[..count as usize];
-    Ok(Vec::from_slice(alloc, words)?)
+    DataWords {
+        longest: longest(number, round, i),
+        count: count as usize,
+    }
 }
 
 /// The item of sender `i` in a round.
@@ -52,7 +71,8 @@ fn item(alloc: Global, number: u32, round: u32, i: u8) -> Result<Payload, AllocE
     ensures { IfOk result (λ item. item ≡ made_item number round i) }
 {
     let mut strings = Vec::with_capacity(alloc, 1)?;
-    strings.push(words(alloc, number, round, i)?)?;
+    let words = words(number, round, i);
+    strings.push(Vec::from_slice(alloc, words.as_slice())?)?;
     Ok(Payload {
         terminal: i,
         strings,
