@@ -103,6 +103,16 @@ module _ (delay : Delays) (wake : Wakes) (s : Station) (sound : IsSound s.timing
       told list m D G (omega arith) (ap (λ o. due_place s.timing (woken_place q w o) + w) same ∙ h.interval)
       (subst (λ o. GapAt sg q w (heard delay n list) m (woken_place q w o) G) (sym same) (gap_to list (place list (v + 1)) v m G powered low come h.gap))
 
+  -- whatever comes, it isn't due before its transmit interval elapses
+  pub rests_interval : (list : List Entry) (v D G : ℕ) → Hears delay wake s list v D G → RestsUntil delay wake s list v (D - q)
+  rests_interval list v D G h m low high begun due =
+      let powered : w ≤ q + v = h.powered in
+      let same : own list n m ≡ own list n (v + 1) = own_from list v m h.begun begun low in
+      let len : length (woken_past q w (heard delay n list) m) + w ≡ q + m = length_woken q w (heard delay n list) m (omega arith) in
+      let at : due_place s.timing (place list m) + w ≡ D = ap (λ o. due_place s.timing (woken_place q w o) + w) same ∙ h.interval in
+      let due_by : due_place s.timing (place list m) ≤ length (woken_past q w (heard delay n list) m) = due.may.interval in
+      omega arith
+
   rests_before : (list : List Entry) (v D G m : ℕ) → Hears delay wake s list v D G → v ≤ m → ComeFrom delay n list v m → HaveBegun list n m → m < ready_moment s.timing D G
       → IsDueOnCable q delay wake list s m → ⊥
   rests_before list v D G m h low come begun early due =

@@ -2,6 +2,7 @@
 pub mod HearingLemmas
 pub mod ArrivalLemmas
 pub mod LookingLemmas
+pub mod RestLemmas
 pub mod NextLemmas
 pub mod SeatingLemmas
 pub mod TurnLemmas

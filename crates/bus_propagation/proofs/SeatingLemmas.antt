@@ -50,6 +50,7 @@ seated_one table wake k sender hand x valid at number s =
       timers_moment = s.timers_moment;
       timers_due = s.timers_due;
       timers_gap = s.timers_gap;
+      next = s.next;
     }
 
 station_is : (table : Table) (sender : Sender) (hand : Hand) (wake : Wakes) (x : Seat) → IsSeatOf table sender hand wake x → station_of x ≡ station_with table sender hand

@@ -27,9 +27,10 @@ use Rattle.bus_medium.proofs.Seats.{get_set_same, get_set_other, same_some, map_
 use Rattle.bus_medium.proofs.Waking.{at_start, at_power_up, at_settled}
 use Rattle.bus_medium.proofs.Reaching.{each_rest}
 use Rattle.bus_propagation.specs.declared.seat.Seat.{Seat}
-use Rattle.bus_propagation.specs.inside.Hearing.{HaveBegun, IsNextStart, HaveWords}
+use Rattle.bus_propagation.specs.inside.Hearing.{HaveBegun, RestsUntil, IsNextStart, HaveWords}
 use Rattle.bus_propagation.specs.inside.Seats.{station_of}
-use Rattle.bus_propagation.specs.inside.Turns.{IsSeated, KeepsPlace, Listens, Awaits, Attended, GoesTo, NoLater, NobodyBefore, Begun}
+use Rattle.bus_propagation.specs.inside.Turns.{IsSeated, KeepsPlace, Listens, Rests, Awaits, HasAttended, Follows, GoesTo, NoLater, NobodyBefore, Begun}
+use Rattle.bus_propagation.proofs.RestLemmas.{rests_first, still_rests}
 
 place_kept : (delay : Delays) (list : List Entry) (e : Entry) (z : Seat) → KeepsPlace delay list z → KeepsPlace delay (list ++ e ∷ []) z
 place_kept delay list e z p =
@@ -96,14 +97,14 @@ own_begun due ss t n u k l law low x there mine = elim (cases_lt x.moment u) [
       absurd (not_both u k t n (elim b [ inl less ↦ inl (omega arith) | inr same ↦ let e : x.moment ≡ t = same.0 in let w : t ≤ u = late_moment t n u k low in inr (omega arith, same.1) ]) low)
 ]
 
--- senders that attend stay who they are
-attended_stations : (delay : Delays) (list : List Entry) (t : ℕ) (xs ys : List Seat) → Each (Attended delay list t) xs ys → map station_of ys ≡ map station_of xs
-attended_stations delay list t [] [] e = refl
-attended_stations delay list t [] (y ∷ ys) e = absurd (let k : length (y ∷ ys) ≡ 0 = e.same_length in omega arith)
-attended_stations delay list t (x ∷ xs) [] e = absurd (let k : 0 ≡ length (x ∷ xs) = e.same_length in omega arith)
-attended_stations delay list t (x ∷ xs) (y ∷ ys) e =
+-- senders that follow stay who they are
+followed_stations : (delay : Delays) (list : List Entry) (t : ℕ) (xs ys : List Seat) → Each (Follows delay list t) xs ys → map station_of ys ≡ map station_of xs
+followed_stations delay list t [] [] e = refl
+followed_stations delay list t [] (y ∷ ys) e = absurd (let k : length (y ∷ ys) ≡ 0 = e.same_length in omega arith)
+followed_stations delay list t (x ∷ xs) [] e = absurd (let k : 0 ≡ length (x ∷ xs) = e.same_length in omega arith)
+followed_stations delay list t (x ∷ xs) (y ∷ ys) e =
     ap (λ s. s ∷ map station_of ys) (e.each 0 x y refl refl).station
-    ∙ ap (λ ss. station_of x ∷ ss) (attended_stations delay list t xs ys (each_rest (Attended delay list t) x y xs ys e))
+    ∙ ap (λ ss. station_of x ∷ ss) (followed_stations delay list t xs ys (each_rest (Follows delay list t) x y xs ys e))
 
 -- two places whose senders have the same number are one
 one_place : (seats : List Seat) (ss : List Station) (i j : ℕ) (x y : Seat) → map station_of seats ≡ ss → AreDistinct (map (λ s. s.number) ss) → slice_get seats i ≡ Some x → slice_get seats j ≡ Some y
@@ -123,21 +124,21 @@ before_next v r u k m (inr a) (inl b) = let e : v ≡ u = a.0 in omega arith
 before_next v r u k m (inr a) (inr b) = let h : r < k = a.1 in let l : k ≤ r = b.1 in absurd (omega arith)
 
 module _ (quiet : ℕ) (delay : Delays) (wake : Wakes) where
-  -- until its next start a sender isn't due
-  idle_until : (list : List Entry) (t n u : ℕ) (ss : List Station) (y : Seat) → IsLawfulOnCableTo quiet delay wake ss t n list → y.timing.quiet ≡ quiet → Listens delay wake list t y → Awaits delay wake list y
+  -- while it rests a sender isn't due
+  idle_until : (list : List Entry) (t n u : ℕ) (ss : List Station) (y : Seat) → IsLawfulOnCableTo quiet delay wake ss t n list → y.timing.quiet ≡ quiet → Listens delay wake list t y → Rests delay wake list y
       → NoLater t n u y.terminal → ((m : ℕ) → y.next ≡ Some m → u < m) → IsDueOnCable quiet delay wake list (station_of y) u → ⊥
-  idle_until list t n u ss y law q_is lis aw low early due =
+  idle_until list t n u ss y law q_is lis rests low early due =
       let begun : HaveBegun list y.terminal u = own_begun (IsDueOnCable quiet delay wake) ss t n u y.terminal list law low in
       let count : length (own list y.terminal u) ≡ y.sent = lis.count u begun in
       let left : length (own list y.terminal u) < length y.messages.items = due.left in
       let after : t ≤ u = late_moment t n u y.terminal low in
       elim y.next as (λ next. y.next ≡ next → ⊥) [
-        | None ↦ λ e. let k : length y.messages.items ≤ y.sent = subst (λ next. MatchOption next (length y.messages.items ≤ y.sent) (λ v. (y.sent < length y.messages.items) × IsNextStart delay wake (station_of y) list y.timers.moment v)) e aw in omega arith
+        | None ↦ λ e. let k : length y.messages.items ≤ y.sent = subst (λ next. MatchOption next (length y.messages.items ≤ y.sent) (λ v. (y.sent < length y.messages.items) × RestsUntil delay wake (station_of y) list y.timers.moment v)) e rests in omega arith
         | Some m ↦ λ e.
-            let k = subst (λ next. MatchOption next (length y.messages.items ≤ y.sent) (λ v. (y.sent < length y.messages.items) × IsNextStart delay wake (station_of y) list y.timers.moment v)) e aw in
+            let k = subst (λ next. MatchOption next (length y.messages.items ≤ y.sent) (λ v. (y.sent < length y.messages.items) × RestsUntil delay wake (station_of y) list y.timers.moment v)) e rests in
             let due_too : IsDueOnCable y.timing.quiet delay wake list (station_of y) u = subst (λ q. IsDueOnCable q delay wake list (station_of y) u) (sym q_is) due in
             elim (cases_lt u y.timers.moment) [
-              | inr from ↦ k.1.rests u from (early m e) begun due_too
+              | inr from ↦ k.1 u from (early m e) begun due_too
               | inl before ↦ elim lis.sure [
                 | inl sure ↦ omega arith
                 | inr to_come ↦ not_before y.timing.quiet delay wake list (station_of y) u (sound_tg y.timing lis.sender.sound) (omega arith) due_too
@@ -270,30 +271,42 @@ module _ (quiet : ℕ) (delay : Delays) (wake : Wakes) where
         sure = elim (cases_lt x.timing.quiet (wake x.terminal)) [ inl late ↦ inr (omega arith) | inr early ↦ inl (omega arith) ];
       }
 
-  -- who has heard of the list goes with it
-  goes_on : (ss : List Station) (list : List Entry) (xs ys : List Seat) (t n : ℕ) → map station_of xs ≡ ss → IsLawfulOnCableTo quiet delay wake ss t n list → HaveWords list
-      → ((j : ℕ) (x : Seat) → slice_get xs j ≡ Some x → (x.timing.quiet ≡ quiet) × Listens delay wake list t x) → Each (Attended delay list t) xs ys → GoesTo quiet delay wake ss list ys t n
-  goes_on ss list xs ys t n same law words all e =
+  -- who follows goes with the list as before
+  pub goes_on : (ss : List Station) (list : List Entry) (xs ys : List Seat) (t n : ℕ) → GoesTo quiet delay wake ss list xs t n → Each (Follows delay list t) xs ys → GoesTo quiet delay wake ss list ys t n
+  goes_on ss list xs ys t n g e =
       let old : (j : ℕ) (y : Seat) → slice_get ys j ≡ Some y → (x : Seat) × (slice_get xs j ≡ Some x) = λ j y at.
       let within : j < length ys = slice_get_within ys j y at in
       let long : length ys ≡ length xs = e.same_length in
       some_at xs j (omega arith) in
       record {
-        same = attended_stations delay list t xs ys e ∙ same;
-        lawful = law;
-        words = words;
+        same = followed_stations delay list t xs ys e ∙ g.same;
+        lawful = g.lawful;
+        words = g.words;
         quiet_is = λ j y at.
             let x = old j y at in
-            ap (λ (s : Station). s.timing.quiet) (e.each j x.0 y x.1 at).station ∙ (all j x.0 x.1).0;
-        listen = λ j y at. let x = old j y at in ((e.each j x.0 y x.1 at).on wake (all j x.0 x.1).1).0;
-        await = λ j y at. let x = old j y at in ((e.each j x.0 y x.1 at).on wake (all j x.0 x.1).1).1;
+            ap (λ (s : Station). s.timing.quiet) (e.each j x.0 y x.1 at).station ∙ g.quiet_is j x.0 x.1;
+        listen = λ j y at. let x = old j y at in ((e.each j x.0 y x.1 at).on wake (g.listen j x.0 x.1) (g.rest j x.0 x.1)).0;
+        rest = λ j y at. let x = old j y at in ((e.each j x.0 y x.1 at).on wake (g.listen j x.0 x.1) (g.rest j x.0 x.1)).1;
       }
 
-  pub goes_start : (ss : List Station) (xs ys : List Seat) → map station_of xs ≡ ss → ((j : ℕ) (x : Seat) → slice_get xs j ≡ Some x → IsSeated quiet wake x) → Each (Attended delay [] 0) xs ys
-      → GoesTo quiet delay wake ss [] ys 0 0
-  goes_start ss xs ys same seated e =
-      goes_on ss [] xs ys 0 0 same (ruled_none (IsDueOnCable quiet delay wake) (cable_looks quiet delay wake) ss) (λ x there. absurd there)
-      (λ j x at. ((seated j x at).quiet_is, listens_none x (seated j x at))) e
+  -- who has attended knows its next start
+  pub awaits_turn : (ss : List Station) (list : List Entry) (xs ys : List Seat) (t n p : ℕ) (y : Seat) → GoesTo quiet delay wake ss list xs t n → Each (Follows delay list t) xs ys → HasAttended delay list t xs ys p
+      → slice_get ys p ≡ Some y → Awaits delay wake list y
+  awaits_turn ss list xs ys t n p y g e attended at =
+      let within : p < length ys = slice_get_within ys p y at in
+      let long : length ys ≡ length xs = e.same_length in
+      let x = some_at xs p (omega arith) in
+      ((attended x.0 y x.1 at).on wake (g.listen p x.0 x.1)).1
+
+  pub goes_start : (ss : List Station) (xs : List Seat) → map station_of xs ≡ ss → ((j : ℕ) (x : Seat) → slice_get xs j ≡ Some x → IsSeated quiet wake x) → GoesTo quiet delay wake ss [] xs 0 0
+  goes_start ss xs same seated = record {
+    same = same;
+    lawful = ruled_none (IsDueOnCable quiet delay wake) (cable_looks quiet delay wake) ss;
+    words = λ x there. absurd there;
+    quiet_is = λ j x at. (seated j x at).quiet_is;
+    listen = λ j x at. listens_none x (seated j x at);
+    rest = λ j x at. rests_first delay wake [] 0 x (listens_none x (seated j x at)) (seated j x at).next;
+  }
 
   -- what is known of the sender whose turn it is
   record KnownTurn (ss : List Station) (list : List Entry) (x : Seat) (u t n : ℕ) : Type 0 where
@@ -304,10 +317,10 @@ module _ (quiet : ℕ) (delay : Delays) (wake : Wakes) where
     low : NoLater t n u x.terminal
     powered : wake x.terminal ≤ x.timing.quiet + u
 
-  known_turn : (ss : List Station) (list : List Entry) (seats : List Seat) (t n p u : ℕ) (x : Seat) → GoesTo quiet delay wake ss list seats t n → slice_get seats p ≡ Some x → x.next ≡ Some u → KnownTurn ss list x u t n
-  known_turn ss list seats t n p u x g at is =
+  known_turn : (ss : List Station) (list : List Entry) (seats : List Seat) (t n p u : ℕ) (x : Seat) → GoesTo quiet delay wake ss list seats t n → slice_get seats p ≡ Some x → Awaits delay wake list x → x.next ≡ Some u → KnownTurn ss list x u t n
+  known_turn ss list seats t n p u x g at awaits is =
       let there : In (station_of x) ss = subst (In (station_of x)) g.same (in_map station_of seats p x at) in
-      let aw = subst (λ next. MatchOption next (length x.messages.items ≤ x.sent) (λ v. (x.sent < length x.messages.items) × IsNextStart delay wake (station_of x) list x.timers.moment v)) is (g.await p x at) in
+      let aw = subst (λ next. MatchOption next (length x.messages.items ≤ x.sent) (λ v. (x.sent < length x.messages.items) × IsNextStart delay wake (station_of x) list x.timers.moment v)) is awaits in
       let next : IsNextStart delay wake (station_of x) list x.timers.moment u = aw.1 in
       let left : x.sent < length x.messages.items = aw.0 in
       let count : length (own list x.terminal u) ≡ x.sent = (g.listen p x at).count u next.begun in
@@ -333,8 +346,8 @@ module _ (quiet : ℕ) (delay : Delays) (wake : Wakes) where
       }
 
   -- no turn comes before the list
-  pub turn_low : (ss : List Station) (list : List Entry) (seats : List Seat) (t n p u : ℕ) (x : Seat) → GoesTo quiet delay wake ss list seats t n → slice_get seats p ≡ Some x → x.next ≡ Some u → NoLater t n u x.terminal
-  turn_low ss list seats t n p u x g at is = (known_turn ss list seats t n p u x g at is).low
+  pub turn_low : (ss : List Station) (list : List Entry) (seats : List Seat) (t n p u : ℕ) (x : Seat) → GoesTo quiet delay wake ss list seats t n → slice_get seats p ≡ Some x → Awaits delay wake list x → x.next ≡ Some u → NoLater t n u x.terminal
+  turn_low ss list seats t n p u x g at awaits is = (known_turn ss list seats t n p u x g at awaits is).low
 
   -- the list up to that turn
   lawful_turn : (ss : List Station) (list : List Entry) (seats : List Seat) (t n u k : ℕ) → GoesTo quiet delay wake ss list seats t n → NoLater t n u k
@@ -343,16 +356,17 @@ module _ (quiet : ℕ) (delay : Delays) (wake : Wakes) where
       ruled_reach (IsDueOnCable quiet delay wake) ss t n u k list g.lawful low (λ v r there late before due.
       let m = from_map station_of seats r (subst (In r) (sym g.same) there) in
       let number : m.element.terminal ≡ r.number = ap (λ (s : Station). s.number) m.same in
-      idle_until list t n v ss m.element g.lawful (g.quiet_is m.place m.element m.at) (g.listen m.place m.element m.at) (g.await m.place m.element m.at)
+      idle_until list t n v ss m.element g.lawful (g.quiet_is m.place m.element m.at) (g.listen m.place m.element m.at) (g.rest m.place m.element m.at)
       (subst (NoLater t n v) (sym number) late)
       (λ next e. before_next v r.number u k next before (subst (NoLater u k next) number (first m.place m.element next m.at e)))
       (subst (λ s. IsDueOnCable quiet delay wake list s v) (sym m.same) due))
 
   -- what the senders know when one of them has begun
   pub listen_after : (ss : List Station) (list : List Entry) (seats : List Seat) (t n p u : ℕ) (x y : Seat) (e : Entry) → AreDistinct (map (λ s. s.number) ss) → GoesTo quiet delay wake ss list seats t n
-      → slice_get seats p ≡ Some x → x.next ≡ Some u → Begun u x y e → (j : ℕ) (z : Seat) → slice_get (set seats p y) j ≡ Some z → (z.timing.quiet ≡ quiet) × Listens delay wake (list ++ e ∷ []) u z
-  listen_after ss list seats t n p u x y e apart g at is b j z z_at =
-      let k : KnownTurn ss list x u t n = known_turn ss list seats t n p u x g at is in
+      → slice_get seats p ≡ Some x → Awaits delay wake list x → x.next ≡ Some u → Begun u x y e → (j : ℕ) (z : Seat) → slice_get (set seats p y) j ≡ Some z
+      → (z.timing.quiet ≡ quiet) × Listens delay wake (list ++ e ∷ []) u z × Rests delay wake (list ++ e ∷ []) z
+  listen_after ss list seats t n p u x y e apart g at awaits is b j z z_at =
+      let k : KnownTurn ss list x u t n = known_turn ss list seats t n p u x g at awaits is in
       let within : p < length seats = slice_get_within seats p x at in
       let em : e.moment ≡ u = b.moment in
       let timing : y.timing ≡ x.timing = ap (λ (s : Station). s.timing) b.station in
@@ -360,31 +374,38 @@ module _ (quiet : ℕ) (delay : Delays) (wake : Wakes) where
       elim (cases_eq p j) [
         | inl same ↦
             let z_is : y ≡ z = same_some y z (sym (get_set_same seats p y within) ∙ ap (slice_get (set seats p y)) same ∙ z_at) in
-            subst (λ (v : Seat). (v.timing.quiet ≡ quiet) × Listens delay wake (list ++ e ∷ []) u v) z_is
-            (ap (λ s. s.quiet) timing ∙ g.quiet_is p x at, subst (λ m. Listens delay wake (list ++ e ∷ []) m y) em (listens_begun list t u e x y timing terminal (g.listen p x at) k.next k.powered b))
+            let listens : Listens delay wake (list ++ e ∷ []) u y = subst (λ m. Listens delay wake (list ++ e ∷ []) m y) em (listens_begun list t u e x y timing terminal (g.listen p x at) k.next k.powered b) in
+            subst (λ (v : Seat). (v.timing.quiet ≡ quiet) × Listens delay wake (list ++ e ∷ []) u v × Rests delay wake (list ++ e ∷ []) v) z_is
+            (ap (λ s. s.quiet) timing ∙ g.quiet_is p x at, listens, rests_first delay wake (list ++ e ∷ []) u y listens b.next)
         | inr other ↦
             let old : slice_get seats j ≡ Some z = sym (get_set_other seats p j y other) ∙ z_at in
             let differs : e.terminal ≢ z.terminal = λ same. other (one_place seats ss p j x z g.same apart at old (sym b.terminal ∙ same)) in
             let t_low : t ≤ u = late_moment t n u x.terminal k.low in
-            (g.quiet_is j z old, subst (λ m. Listens delay wake (list ++ e ∷ []) m z) em (listens_other list t e z (g.listen j z old) differs (omega arith)))
+            (g.quiet_is j z old, subst (λ m. Listens delay wake (list ++ e ∷ []) m z) em (listens_other list t e z (g.listen j z old) differs (omega arith)), still_rests delay wake list e z differs (g.rest j z old))
       ]
 
   pub words_after : (list : List Entry) (u : ℕ) (x y : Seat) (e : Entry) → HaveWords list → Begun u x y e → HaveWords (list ++ e ∷ [])
   words_after list u x y e words b z there = elim (in_push_cases list e z there) [ inl old ↦ words z old | inr same ↦ subst (λ (v : Entry). 0 < length v.message) (sym same) b.words ]
 
-  pub took_turn : (ss : List Station) (list : List Entry) (seats ys : List Seat) (t n p u : ℕ) (x y : Seat) (e : Entry) → HaveOwnNumbers ss → AreDistinct (map (λ s. s.number) ss) → GoesTo quiet delay wake ss list seats t n
-      → slice_get seats p ≡ Some x → x.next ≡ Some u → ((j : ℕ) (z : Seat) (m : ℕ) → slice_get seats j ≡ Some z → z.next ≡ Some m → NoLater u x.terminal m z.terminal)
-      → Begun u x y e → Each (Attended delay (list ++ e ∷ []) u) (set seats p y) ys → GoesTo quiet delay wake ss (list ++ e ∷ []) ys u (x.terminal + 1)
-  took_turn ss list seats ys t n p u x y e own_n apart g at is first b each =
-      let k : KnownTurn ss list x u t n = known_turn ss list seats t n p u x g at is in
+  pub took_turn : (ss : List Station) (list : List Entry) (seats : List Seat) (t n p u : ℕ) (x y : Seat) (e : Entry) → HaveOwnNumbers ss → AreDistinct (map (λ s. s.number) ss) → GoesTo quiet delay wake ss list seats t n
+      → slice_get seats p ≡ Some x → Awaits delay wake list x → x.next ≡ Some u → ((j : ℕ) (z : Seat) (m : ℕ) → slice_get seats j ≡ Some z → z.next ≡ Some m → NoLater u x.terminal m z.terminal)
+      → Begun u x y e → GoesTo quiet delay wake ss (list ++ e ∷ []) (set seats p y) u (x.terminal + 1)
+  took_turn ss list seats t n p u x y e own_n apart g at awaits is first b =
+      let k : KnownTurn ss list x u t n = known_turn ss list seats t n p u x g at awaits is in
       let to : IsLawfulOnCableTo quiet delay wake ss u x.terminal list = lawful_turn ss list seats t n u x.terminal g k.low first in
-      goes_on ss (list ++ e ∷ []) (set seats p y) ys u (x.terminal + 1) (map_set_same station_of seats p x y at b.station ∙ g.same)
-      (ruled_start (IsDueOnCable quiet delay wake) (cable_looks quiet delay wake) ss u x.terminal list (station_of x) e own_n to k.there refl k.due b.moment b.terminal (ap (slice_get x.messages.items) k.count ∙ b.message))
-      (words_after list u x y e g.words b) (listen_after ss list seats t n p u x y e apart g at is b) each
+      let all = listen_after ss list seats t n p u x y e apart g at awaits is b in
+      record {
+        same = map_set_same station_of seats p x y at b.station ∙ g.same;
+        lawful = ruled_start (IsDueOnCable quiet delay wake) (cable_looks quiet delay wake) ss u x.terminal list (station_of x) e own_n to k.there refl k.due b.moment b.terminal (ap (slice_get x.messages.items) k.count ∙ b.message);
+        words = words_after list u x y e g.words b;
+        quiet_is = λ j z z_at. (all j z z_at).0;
+        listen = λ j z z_at. (all j z z_at).1;
+        rest = λ j z z_at. (all j z z_at).2;
+      }
 
-  pub turn_left : (ss : List Station) (list : List Entry) (seats : List Seat) (t n p u : ℕ) (x : Seat) → GoesTo quiet delay wake ss list seats t n → slice_get seats p ≡ Some x → x.next ≡ Some u → x.sent < length x.messages.items
-  turn_left ss list seats t n p u x g at is =
-      (subst (λ next. MatchOption next (length x.messages.items ≤ x.sent) (λ v. (x.sent < length x.messages.items) × IsNextStart delay wake (station_of x) list x.timers.moment v)) is (g.await p x at)).0
+  pub turn_left : (list : List Entry) (u : ℕ) (x : Seat) → Awaits delay wake list x → x.next ≡ Some u → x.sent < length x.messages.items
+  turn_left list u x awaits is =
+      (subst (λ next. MatchOption next (length x.messages.items ≤ x.sent) (λ v. (x.sent < length x.messages.items) × IsNextStart delay wake (station_of x) list x.timers.moment v)) is awaits).0
 
   -- nobody starts before the horizon any more
   pub goes_whole : (ss : List Station) (list : List Entry) (seats : List Seat) (t n horizon : ℕ) → GoesTo quiet delay wake ss list seats t n → (t < horizon) ⊎ ((t ≡ 0) × (n ≡ 0)) → NobodyBefore seats horizon

@@ -1,5 +1,7 @@
 //! What comes to a terminal of the transmissions of a list.
-ghost use Rattle.std.specs.Prelude.{◌≡◌, ℕ, ◌+◌, ◌<◌, ◌≤◌, ◌^◌, ◌⊎◌, length, Some, IfSome, MatchOption};
+ghost use Rattle.std.specs.Prelude.{◌≡◌, ℕ, ◌+◌, ◌<◌, ◌≤◌, ◌^◌, ◌⊎◌, length, None, IfSome, MatchOption, nat_le, false};
+ghost use Rattle.std.specs.Option.{option_map_or};
+ghost use Rattle.bus_strings.specs.Transmissions.{IsByMoment};
 ghost use Rattle.bus_medium.specs.Delays.{cable, heard_end};
 ghost use Rattle.bus_propagation.specs.Numbered.{numbered, ArePlaces};
 ghost use Rattle.bus_propagation.specs.inside.Arrivals.{heard_begin, ComesFirst, NoneComes, ArePassed};
@@ -35,62 +37,83 @@ pub fn heard(transmission: &Transmission, places: &[u64], terminal: u8) -> Arriv
 }
 
 /// Of two arrivals the one that begins first.
-fn earlier(first: Option<Arrival>, other: Arrival) -> Arrival
-    ensures one { (result ≡ other) ⊎ (first ≡ Some result) }
-    ensures least { result.begin ≤ other.begin }
-    ensures no_later { IfSome first (λ a. result.begin ≤ a.begin) }
+fn earlier(first: Arrival, other: Arrival) -> Arrival
+    ensures one { (result ≡ other) ⊎ (result ≡ first) }
+    ensures least { (result.begin ≤ other.begin) × (result.begin ≤ first.begin) }
+{
+    if other.begin < first.begin {
+        other
+    } else {
+        first
+    }
+}
+
+/// What comes to a terminal next.
+#[derive(Clone, Copy)]
+pub struct Coming {
+    /// The transmission that it hears first of those that it hasn't heard to their end.
+    pub arrival: Arrival,
+    /// Before this place of the list it has heard all to the end.
+    pub cursor: usize,
+}
+
+/// What comes next where one more comes, from a place of the list.
+fn sooner(first: Option<Coming>, place: usize, other: Arrival) -> Coming
+    ensures one { MatchOption first (result.arrival ≡ other) (λ c. (result.arrival ≡ other) ⊎ (result.arrival ≡ c.arrival)) }
+    ensures least { result.arrival.begin ≤ other.begin }
+    ensures no_later { IfSome first (λ c. result.arrival.begin ≤ c.arrival.begin) }
+    ensures cursor { MatchOption first (result.cursor ≡ place) (λ c. result.cursor ≡ c.cursor) }
 {
     match first {
-        None => other,
-        Some(first) => if other.begin < first.begin {
-            other
-        } else {
-            first
+        None => Coming {
+            arrival: other,
+            cursor: place,
+        },
+        Some(first) => Coming {
+            arrival: earlier(first.arrival, other),
+            cursor: first.cursor,
         },
     }
 }
 
+/// Whether what comes next begins no later than at this moment.
+fn comes_by(first: Option<Coming>, moment: u64) -> bool
+    ensures { result ≡ option_map_or (λ c. nat_le c.arrival.begin moment) first false }
+{
+    match first {
+        None => false,
+        Some(first) => first.arrival.begin <= moment,
+    }
+}
+
 /// Of the transmissions that the terminal hasn't heard to their end at a moment the one that it hears first, if there is
-/// one. Those before the place `cursor` of the list it has heard.
+/// one. Those before the place `cursor` of the list it has heard. What is sent from its begin on is heard no earlier.
 pub fn next_arrival(
     list: &[Transmission],
     places: &[u64],
     terminal: u8,
     cursor: usize,
     moment: u64,
-) -> Option<Arrival>
+) -> Option<Coming>
     requires places { ArePlaces places.now }
+    requires order { IsByMoment list.now }
+    requires within { cursor ≤ length list.now }
     requires passed { ArePassed (cable (numbered places.now)) terminal list.now cursor moment }
-    ensures { MatchOption result (NoneComes (cable (numbered places.now)) terminal list.now moment)
-        (λ a. ComesFirst (cable (numbered places.now)) terminal list.now moment a.begin a.end) }
+    ensures first { MatchOption result (NoneComes (cable (numbered places.now)) terminal list.now moment)
+        (λ c. ComesFirst (cable (numbered places.now)) terminal list.now moment c.arrival.begin c.arrival.end) }
+    ensures passed { IfSome result (λ c. ArePassed (cable (numbered places.now)) terminal list.now c.cursor moment) }
+    ensures within { IfSome result (λ c. c.cursor < length list.now) }
 {
     let mut first = None;
     for place in cursor..list.len() {
-        let arrival = heard(&list[place], places, terminal);
+        let x = &list[place];
+        if comes_by(first, x.moment) {
+            return first;
+        }
+        let arrival = heard(x, places, terminal);
         if arrival.end > moment {
-            first = Some(earlier(first, arrival));
+            first = Some(sooner(first, place, arrival));
         }
     }
     first
-}
-
-/// The first place from `cursor` on of a transmission that the terminal hasn't heard to its end at a moment.
-pub fn pass_over(
-    list: &[Transmission],
-    places: &[u64],
-    terminal: u8,
-    cursor: usize,
-    moment: u64,
-) -> usize
-    requires places { ArePlaces places.now }
-    requires within { cursor ≤ length list.now }
-    requires passed { ArePassed (cable (numbered places.now)) terminal list.now cursor moment }
-    ensures within { result ≤ length list.now }
-    ensures passed { ArePassed (cable (numbered places.now)) terminal list.now result moment }
-{
-    let mut passed = cursor;
-    while passed < list.len() && heard(&list[passed], places, terminal).end <= moment {
-        passed += 1;
-    }
-    passed
 }

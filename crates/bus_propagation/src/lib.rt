@@ -4,7 +4,8 @@
 //! start to start, never bit time for bit time: each sender keeps two places that tell its timers after what it has heard
 //! (`specs/inside/Hearing.antt`), for which a whole transmission is one stretch of carrier. It looks ahead over what is
 //! sent already and will still be heard, up to its own next start; the first of these starts is the next of all
-//! (`specs/inside/Turns.antt`), since whatever is sent then is heard no earlier.
+//! (`specs/inside/Turns.antt`), since whatever is sent then is heard no earlier. Who can't be the first by what it heard
+//! before need not look, since nothing that others send brings a start forward.
 #![tactic(auto)]
 
 mod arrival;

@@ -5,7 +5,6 @@ ghost use Rattle.bus_table.specs.Hands.{are_hands};
 ghost use Rattle.bus_propagation.specs.Lists.{IsListOnCable, IsOnlyListOnCable};
 ghost use Rattle.bus_propagation.specs.Numbered.{numbered, ArePlaces};
 
-use crate::attending::attend_all;
 use crate::seating::seat_all;
 use crate::starting::begin;
 use crate::turns::next_turn;
@@ -39,11 +38,11 @@ pub fn observe_delayed(
 {
     let mut seats = seat_all(alloc, table, wakes, hands)?;
     let mut list = Vec::new(alloc);
-    attend_all(&mut seats, &list, places, 0);
-    while let Some(turn) = next_turn(&seats, horizon) {
+    let mut moment = 0;
+    while let Some(turn) = next_turn(&mut seats, &list, places, moment, horizon) {
         let begun = begin(alloc, &mut seats[turn.place], turn.moment)?;
         list.push(begun)?;
-        attend_all(&mut seats, &list, places, turn.moment);
+        moment = turn.moment;
     }
     Ok(list)
 }

@@ -1,4 +1,6 @@
 //! A sender on the cable.
+ghost use Rattle.bus_propagation.specs.inside.Turns.{EndsInterval};
+
 use crate::timers::Timers;
 use bus_strings::Message;
 use bus_timers::Timing;
@@ -18,6 +20,17 @@ pub struct Seat {
     pub timers: Timers,
     /// Before this place of the list it has heard all to the end.
     pub cursor: usize,
-    /// When it starts, if it hears nothing more. None where no message is left.
+    /// It doesn't start before this moment. None where no message is left.
     pub next: Option<u64>,
+}
+
+/// Where the transmit interval of a sender elapses, before which it doesn't start, whatever it hears. None where no message is left.
+pub fn interval_end(seat: &Seat) -> Option<u64>
+    ensures { EndsInterval result seat.now }
+{
+    if seat.sent < seat.messages.len() {
+        Some(seat.timers.due.saturating_sub(seat.timing.quiet as u64))
+    } else {
+        None
+    }
 }

@@ -11,7 +11,7 @@ ghost use Rattle.bus_propagation.specs.inside.Seats.{station_of};
 ghost use Rattle.bus_propagation.specs.inside.Turns.{IsSeated, IsSeatOf};
 
 use crate::places::number_of;
-use crate::seat::Seat;
+use crate::seat::{Seat, interval_end};
 use crate::timers::powered_up;
 use bus_medium::timing;
 use bus_table::{Hand, Table};
@@ -26,7 +26,7 @@ fn seat(table: &Table, k: usize, hand: Hand, wakes: &[u64]) -> Seat
 {
     let timing = timing(table, k);
     let terminal = hand.terminal;
-    Seat {
+    let mut seat = Seat {
         terminal,
         timing,
         messages: hand.messages,
@@ -34,7 +34,9 @@ fn seat(table: &Table, k: usize, hand: Hand, wakes: &[u64]) -> Seat
         timers: powered_up(timing, number_of(wakes, terminal)),
         cursor: 0,
         next: None,
-    }
+    };
+    seat.next = interval_end(&seat);
+    seat
 }
 
 /// The senders of the table, each with its hand and its wake.

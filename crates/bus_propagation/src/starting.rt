@@ -3,7 +3,7 @@ ghost use Rattle.std.specs.Prelude.{◌≡◌, ◌<◌, length, IfOk};
 ghost use Rattle.bus_strings.specs.Limits.{horizon_limit};
 ghost use Rattle.bus_propagation.specs.inside.Turns.{IsSender, Begun};
 
-use crate::seat::Seat;
+use crate::seat::{Seat, interval_end};
 use crate::timers::started;
 use bus_strings::{Transmission, copy_message};
 use std::alloc::{AllocError, Global};
@@ -20,6 +20,7 @@ pub fn begin(alloc: Global, seat: &mut Seat, moment: u64) -> Result<Transmission
     let message = copy_message(alloc, next)?;
     seat.sent += 1;
     seat.timers = started(seat.timing, moment);
+    seat.next = interval_end(seat);
     Ok(Transmission {
         moment,
         terminal: seat.terminal,

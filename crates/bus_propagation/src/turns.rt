@@ -1,8 +1,17 @@
 //! Who starts next.
-ghost use Rattle.std.specs.Prelude.{◌≡◌, ℕ, ◌<◌, ◌≤◌, ◌⊎◌, Some, IfSome, MatchOption};
-ghost use Rattle.bus_propagation.specs.inside.Turns.{NoLater, IsTurn, NobodyBefore};
+ghost use Rattle.std.specs.Prelude.{◌≡◌, ℕ, ◌+◌, ◌<◌, ◌≤◌, ◌⊎◌, slice_get, Some, IfSome, MatchOption};
+ghost use Rattle.std.specs.Option.{option_map_or};
+ghost use Rattle.bus_strings.specs.Transmissions.{IsByMoment};
+ghost use Rattle.bus_medium.specs.Delays.{cable};
+ghost use Rattle.bus_medium.specs.Jumps.{Each};
+ghost use Rattle.bus_propagation.specs.declared.seat.Seat as declared;
+ghost use Rattle.bus_propagation.specs.Numbered.{numbered, ArePlaces};
+ghost use Rattle.bus_propagation.specs.inside.Hearing.{HaveWords};
+ghost use Rattle.bus_propagation.specs.inside.Turns.{IsSender, KeepsPlace, Follows, NoLater, IsTurn, HasAttended, NobodyBefore};
 
+use crate::attending::attend_before;
 use crate::seat::Seat;
+use bus_strings::Transmission;
 
 /// The next start of all.
 #[derive(Clone, Copy)]
@@ -37,20 +46,51 @@ fn first_turn(turn: Option<Turn>, other: Turn) -> Turn
     }
 }
 
-/// The first of the next starts before the horizon, if there is one.
-pub fn next_turn(seats: &[Seat], horizon: u64) -> Option<Turn>
-    ensures { MatchOption result (NobodyBefore seats.now horizon) (λ t. IsTurn seats.now t.place t.moment × (t.moment < horizon)) }
+/// The moment before which a start is before the horizon, and no later than the turn.
+fn until(turn: Option<Turn>, horizon: u64) -> u64
+    requires { IfSome turn (λ t. t.moment < horizon) }
+    ensures { result ≡ option_map_or (λ t. t.moment + 1) turn horizon }
+{
+    match turn {
+        None => horizon,
+        Some(turn) => turn.moment + 1,
+    }
+}
+
+/// The first of the next starts before the horizon, if there is one. Of the senders only those attend that may be the first.
+pub fn next_turn(
+    seats: &mut [Seat],
+    list: &[Transmission],
+    places: &[u64],
+    moment: u64,
+    horizon: u64,
+) -> Option<Turn>
+    requires places { ArePlaces places.now }
+    requires senders { (j : ℕ) (x : declared.Seat) → slice_get seats.old j ≡ Some x → IsSender x }
+    requires words { HaveWords list.now }
+    requires order { IsByMoment list.now }
+    requires place { (j : ℕ) (x : declared.Seat) → slice_get seats.old j ≡ Some x → KeepsPlace (cable (numbered places.now)) list.now x }
+    ensures follow { Each (Follows (cable (numbered places.now)) list.now moment) seats.old seats.new }
+    ensures turn { MatchOption result (NobodyBefore seats.new horizon) (λ t. IsTurn seats.new t.place t.moment × (t.moment < horizon)) }
+    ensures attended { IfSome result (λ t. HasAttended (cable (numbered places.now)) list.now moment seats.old seats.new t.place) }
 {
     let mut turn = None;
     for place in 0..seats.len() {
+        attend_before(
+            &mut seats[place],
+            list,
+            places,
+            moment,
+            until(turn, horizon),
+        );
         let seat = &seats[place];
-        if let Some(moment) = seat.next {
-            if moment < horizon {
+        if let Some(next) = seat.next {
+            if next < horizon {
                 turn = Some(first_turn(
                     turn,
                     Turn {
                         place,
-                        moment,
+                        moment: next,
                         terminal: seat.terminal,
                     },
                 ));

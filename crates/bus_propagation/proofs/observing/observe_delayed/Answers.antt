@@ -1,133 +1,82 @@
-use Rattle.std.proofs.Common.{◌≡◌, ◌<◌, ◌-◌, ◌*◌, List, [], ◌∷◌, ◌++◌, length, set, Some, arith, ap, sym, ◌∙◌, subst}
+use Rattle.std.proofs.Common.{◌≡◌, ◌<◌, ◌-◌, ◌*◌, List, length, set, get_or, Some, arith, ap, sym, ◌∙◌, subst}
 use Rattle.std.specs.Prelude.{slice_get}
-use Rattle.std.specs.Vec.{with_item}
-use Rattle.std.proofs.lemmas.List.{with_items_is, length-set}
+use Rattle.std.proofs.lemmas.List.{with_items_is}
 use Rattle.std.proofs.lemmas.Option.{slice_get_within}
 use Rattle.bus_strings.specs.Messages.{Entry}
+use Rattle.bus_strings.specs.Transmissions.{IsByMoment}
 use Rattle.bus_medium.specs.Delays.{cable}
 use Rattle.bus_medium.specs.Jumps.{Each}
 use Rattle.bus_propagation.specs.declared.seat.Seat.{Seat}
 use Rattle.bus_propagation.specs.Numbered.{numbered}
 use Rattle.bus_propagation.specs.inside.Hearing.{HaveWords}
-use Rattle.bus_propagation.specs.inside.Turns.{KeepsPlace, Attended, IsTurn, NobodyBefore}
-use Rattle.bus_propagation.proofs.RunLemmas.{RunsTo, rank, runs_start, turn_begins, ready_after, runs_further, runs_whole, runs_only}
+use Rattle.bus_propagation.specs.inside.Turns.{KeepsPlace, Follows}
+use Rattle.bus_propagation.proofs.RunLemmas.{RunsTo, rank, runs_start, runs_on, ready_to_follow, takes_turn, runs_further, runs_whole, runs_only}
 use Rattle.bus_propagation.proofs.observing.observe_delayed.Goals as goal
 
 pub loop-turn-init : goal.loop-turn-init
 loop-turn-init c =
-    let table = c.args.table.now in
-    let hands = c.args.hands.items in
+    subst (λ (l : List Entry). RunsTo c.args.table.now c.args.hands.items (cable (numbered c.args.places.now)) (numbered c.args.wakes.now) c.args.horizon l c.in_ok-seats.seats.items 0) (sym c.new-list.ensures.items)
+    (runs_start c.args.table.now c.args.hands.items (cable (numbered c.args.places.now)) (numbered c.args.wakes.now) c.args.horizon c.in_ok-seats.seats.items c.in_ok-seats.ensures.stations c.in_ok-seats.ensures.seated)
+
+pub next_turn-requires-clause-senders : goal.next_turn-requires-clause-senders
+next_turn-requires-clause-senders c =
+    let ready = ready_to_follow c.args.table.now c.args.hands.items (cable (numbered c.args.places.now)) (numbered c.args.wakes.now) c.args.horizon c.loop-turn.list.items c.loop-turn.seats.items c.loop-turn.moment c.loop-turn.invariant in
+    λ j z at. ready.senders j z (subst (λ (xs : List Seat). slice_get xs j ≡ Some z) c.deref_mut.ensures.value at)
+
+pub next_turn-requires-clause-words : goal.next_turn-requires-clause-words
+next_turn-requires-clause-words c =
+    let ready = ready_to_follow c.args.table.now c.args.hands.items (cable (numbered c.args.places.now)) (numbered c.args.wakes.now) c.args.horizon c.loop-turn.list.items c.loop-turn.seats.items c.loop-turn.moment c.loop-turn.invariant in
+    subst HaveWords (sym c.deref.ensures.value) ready.words
+
+pub next_turn-requires-clause-order : goal.next_turn-requires-clause-order
+next_turn-requires-clause-order c =
+    let ready = ready_to_follow c.args.table.now c.args.hands.items (cable (numbered c.args.places.now)) (numbered c.args.wakes.now) c.args.horizon c.loop-turn.list.items c.loop-turn.seats.items c.loop-turn.moment c.loop-turn.invariant in
+    subst IsByMoment (sym c.deref.ensures.value) ready.order
+
+pub next_turn-requires-clause-place : goal.next_turn-requires-clause-place
+next_turn-requires-clause-place c =
     let delay = cable (numbered c.args.places.now) in
-    let wake = numbered c.args.wakes.now in
-    let old = c.in_ok-seats.seats in
-    let new = c.attend_all.new.seats in
-    let long : length new ≡ old.len = c.attend_all.ensures.same_length ∙ c.deref_mut.ensures.len in
-    let each : Each (Attended delay [] 0) old.items new = subst (λ (xs : List Seat). Each (Attended delay [] 0) xs new) c.deref_mut.ensures.value
-    (subst (λ (l : List Entry). Each (Attended delay l 0) c.deref_mut.result.now new) (c.deref.ensures.value ∙ c.new-list.ensures.items) c.attend_all.ensures) in
-    subst (λ (xs : List Seat). RunsTo table hands delay wake c.args.horizon c.new-list.result.items xs) (sym (with_items_is old new long))
-    (subst (λ (l : List Entry). RunsTo table hands delay wake c.args.horizon l new) (sym c.new-list.ensures.items)
-    (runs_start table hands delay wake c.args.horizon old.items new c.in_ok-seats.ensures.stations c.in_ok-seats.ensures.seated each))
+    let ready = ready_to_follow c.args.table.now c.args.hands.items delay (numbered c.args.wakes.now) c.args.horizon c.loop-turn.list.items c.loop-turn.seats.items c.loop-turn.moment c.loop-turn.invariant in
+    λ j z at. subst (λ (l : List Entry). KeepsPlace delay l z) (sym c.deref.ensures.value) (ready.place j z (subst (λ (xs : List Seat). slice_get xs j ≡ Some z) c.deref_mut.ensures.value at))
 
 pub index_mut-requires : goal.index_mut-requires
 index_mut-requires c =
-    let p = c.in-Some.turn.place in
-    let u = c.in-Some.turn.moment in
-    let turn : IsTurn c.loop-turn.seats.items p u = subst (λ (xs : List Seat). IsTurn xs p u) c.deref-in-loop-turn.ensures.value c.in-Some.ensures.0 in
-    let within : p < length c.loop-turn.seats.items = slice_get_within c.loop-turn.seats.items p turn.seat turn.at in
-    omega (arith, c.loop-turn.seats.ok.0)
+    let new = c.next_turn.new.seats in
+    let turn = c.in-Some.ensures.turn.0 in
+    let within : c.in-Some.turn.place < length new = slice_get_within new c.in-Some.turn.place turn.seat turn.at in
+    let long : length new ≡ c.loop-turn.seats.len = c.next_turn.ensures.follow.same_length ∙ c.deref_mut.ensures.len in
+    omega (arith, within, long)
 
 pub begin-requires-clause-sender : goal.begin-requires-clause-sender
 begin-requires-clause-sender c =
-    let table = c.args.table.now in
-    let hands = c.args.hands.items in
-    let delay = cable (numbered c.args.places.now) in
-    let wake = numbered c.args.wakes.now in
-    let list = c.loop-turn.list.items in
-    let seats = c.loop-turn.seats.items in
-    let p = c.in-Some.turn.place in
-    let u = c.in-Some.turn.moment in
-    let turn : IsTurn seats p u = subst (λ (xs : List Seat). IsTurn xs p u) c.deref-in-loop-turn.ensures.value c.in-Some.ensures.0 in
-    (turn_begins table hands delay wake c.args.horizon list seats p u c.index_mut.result.now c.loop-turn.invariant turn c.index_mut.ensures.value).0
+    let new = c.next_turn.new.seats in
+    let long : length new ≡ c.loop-turn.seats.len = c.next_turn.ensures.follow.same_length ∙ c.deref_mut.ensures.len in
+    let x = c.index_mut.result.now in
+    (takes_turn c.args.table.now c.args.hands.items (cable (numbered c.args.places.now)) (numbered c.args.wakes.now) c.args.horizon c.loop-turn.list.items c.deref.result.now c.loop-turn.seats.items c.deref_mut.result.now new
+    c.loop-turn.moment c.in-Some.turn.place c.in-Some.turn.moment x c.deref.ensures.value c.deref_mut.ensures.value c.loop-turn.invariant c.next_turn.ensures.follow c.in-Some.ensures.attended c.in-Some.ensures.turn.0
+    (c.index_mut.ensures.value ∙ ap (λ (xs : List Seat). get_or xs c.in-Some.turn.place x) (with_items_is c.loop-turn.seats new long))).sender
 
 pub begin-requires-clause-left : goal.begin-requires-clause-left
 begin-requires-clause-left c =
-    let table = c.args.table.now in
-    let hands = c.args.hands.items in
-    let delay = cable (numbered c.args.places.now) in
-    let wake = numbered c.args.wakes.now in
-    let list = c.loop-turn.list.items in
-    let seats = c.loop-turn.seats.items in
-    let p = c.in-Some.turn.place in
-    let u = c.in-Some.turn.moment in
-    let turn : IsTurn seats p u = subst (λ (xs : List Seat). IsTurn xs p u) c.deref-in-loop-turn.ensures.value c.in-Some.ensures.0 in
-    (turn_begins table hands delay wake c.args.horizon list seats p u c.index_mut.result.now c.loop-turn.invariant turn c.index_mut.ensures.value).1
-
-pub attend_all-requires-in-Some-clause-senders : goal.attend_all-requires-in-Some-clause-senders
-attend_all-requires-in-Some-clause-senders c j z at =
-    let table = c.args.table.now in
-    let hands = c.args.hands.items in
-    let delay = cable (numbered c.args.places.now) in
-    let wake = numbered c.args.wakes.now in
-    let list = c.loop-turn.list.items in
-    let seats = c.loop-turn.seats.items in
-    let p = c.in-Some.turn.place in
-    let u = c.in-Some.turn.moment in
-    let turn : IsTurn seats p u = subst (λ (xs : List Seat). IsTurn xs p u) c.deref-in-loop-turn.ensures.value c.in-Some.ensures.0 in
-    let ready = ready_after table hands delay wake c.args.horizon list seats p u c.index_mut.result.now c.begin.new.seat c.in_ok-begun.begun c.in_ok-seats.ensures.valid c.requires.hands c.loop-turn.invariant turn
-    c.index_mut.ensures.value c.in_ok-begun.ensures in
-    ready.senders j z (subst (λ (xs : List Seat). slice_get xs j ≡ Some z) c.deref_mut-in-Some.ensures.value at)
-
-pub attend_all-requires-in-Some-clause-words : goal.attend_all-requires-in-Some-clause-words
-attend_all-requires-in-Some-clause-words c =
-    let table = c.args.table.now in
-    let hands = c.args.hands.items in
-    let delay = cable (numbered c.args.places.now) in
-    let wake = numbered c.args.wakes.now in
-    let list = c.loop-turn.list.items in
-    let seats = c.loop-turn.seats.items in
-    let p = c.in-Some.turn.place in
-    let u = c.in-Some.turn.moment in
-    let turn : IsTurn seats p u = subst (λ (xs : List Seat). IsTurn xs p u) c.deref-in-loop-turn.ensures.value c.in-Some.ensures.0 in
-    let ready = ready_after table hands delay wake c.args.horizon list seats p u c.index_mut.result.now c.begin.new.seat c.in_ok-begun.begun c.in_ok-seats.ensures.valid c.requires.hands c.loop-turn.invariant turn
-    c.index_mut.ensures.value c.in_ok-begun.ensures in
-    subst HaveWords (sym (c.deref-in-Some.ensures.value ∙ c.in_ok-push.ensures.items)) ready.words
-
-pub attend_all-requires-in-Some-clause-place : goal.attend_all-requires-in-Some-clause-place
-attend_all-requires-in-Some-clause-place c j z at =
-    let table = c.args.table.now in
-    let hands = c.args.hands.items in
-    let delay = cable (numbered c.args.places.now) in
-    let wake = numbered c.args.wakes.now in
-    let list = c.loop-turn.list.items in
-    let seats = c.loop-turn.seats.items in
-    let p = c.in-Some.turn.place in
-    let u = c.in-Some.turn.moment in
-    let turn : IsTurn seats p u = subst (λ (xs : List Seat). IsTurn xs p u) c.deref-in-loop-turn.ensures.value c.in-Some.ensures.0 in
-    let ready = ready_after table hands delay wake c.args.horizon list seats p u c.index_mut.result.now c.begin.new.seat c.in_ok-begun.begun c.in_ok-seats.ensures.valid c.requires.hands c.loop-turn.invariant turn
-    c.index_mut.ensures.value c.in_ok-begun.ensures in
-    subst (λ (l : List Entry). KeepsPlace delay l z) (sym (c.deref-in-Some.ensures.value ∙ c.in_ok-push.ensures.items))
-    (ready.place j z (subst (λ (xs : List Seat). slice_get xs j ≡ Some z) c.deref_mut-in-Some.ensures.value at))
+    let new = c.next_turn.new.seats in
+    let long : length new ≡ c.loop-turn.seats.len = c.next_turn.ensures.follow.same_length ∙ c.deref_mut.ensures.len in
+    let x = c.index_mut.result.now in
+    (takes_turn c.args.table.now c.args.hands.items (cable (numbered c.args.places.now)) (numbered c.args.wakes.now) c.args.horizon c.loop-turn.list.items c.deref.result.now c.loop-turn.seats.items c.deref_mut.result.now new
+    c.loop-turn.moment c.in-Some.turn.place c.in-Some.turn.moment x c.deref.ensures.value c.deref_mut.ensures.value c.loop-turn.invariant c.next_turn.ensures.follow c.in-Some.ensures.attended c.in-Some.ensures.turn.0
+    (c.index_mut.ensures.value ∙ ap (λ (xs : List Seat). get_or xs c.in-Some.turn.place x) (with_items_is c.loop-turn.seats new long))).left
 
 pub loop-turn-smaller : goal.loop-turn-smaller
 loop-turn-smaller c =
-    let table = c.args.table.now in
-    let hands = c.args.hands.items in
-    let delay = cable (numbered c.args.places.now) in
-    let wake = numbered c.args.wakes.now in
+    let new = c.next_turn.new.seats in
+    let long : length new ≡ c.loop-turn.seats.len = c.next_turn.ensures.follow.same_length ∙ c.deref_mut.ensures.len in
+    let x = c.index_mut.result.now in
     let list = c.loop-turn.list.items in
-    let seats = c.loop-turn.seats.items in
-    let p = c.in-Some.turn.place in
-    let u = c.in-Some.turn.moment in
-    let turn : IsTurn seats p u = subst (λ (xs : List Seat). IsTurn xs p u) c.deref-in-loop-turn.ensures.value c.in-Some.ensures.0 in
-    let new = c.attend_all-in-Some.new.seats in
-    let set_seats = set seats p c.begin.new.seat in
-    let pushed : c.push.new.self.items ≡ list ++ c.in_ok-begun.begun ∷ [] = c.in_ok-push.ensures.items in
-    let each : Each (Attended delay (list ++ c.in_ok-begun.begun ∷ []) u) set_seats new =
-    subst (λ (xs : List Seat). Each (Attended delay (list ++ c.in_ok-begun.begun ∷ []) u) xs new) c.deref_mut-in-Some.ensures.value
-    (subst (λ (l : List Entry). Each (Attended delay l u) c.deref_mut-in-Some.result.now new) (c.deref-in-Some.ensures.value ∙ pushed) c.attend_all-in-Some.ensures) in
-    let further = runs_further table hands delay wake c.args.horizon list seats new p u c.index_mut.result.now c.begin.new.seat c.in_ok-begun.begun c.in_ok-seats.ensures.valid c.requires.hands c.loop-turn.invariant turn
-    c.in-Some.ensures.1 c.index_mut.ensures.value c.in_ok-begun.ensures each in
-    subst (λ (l : List Entry). 129 * c.args.horizon - rank l < 129 * c.args.horizon - rank list) (sym pushed) further.less
+    let turn = takes_turn c.args.table.now c.args.hands.items (cable (numbered c.args.places.now)) (numbered c.args.wakes.now) c.args.horizon list c.deref.result.now c.loop-turn.seats.items c.deref_mut.result.now new
+    c.loop-turn.moment c.in-Some.turn.place c.in-Some.turn.moment x c.deref.ensures.value c.deref_mut.ensures.value c.loop-turn.invariant c.next_turn.ensures.follow c.in-Some.ensures.attended c.in-Some.ensures.turn.0
+    (c.index_mut.ensures.value ∙ ap (λ (xs : List Seat). get_or xs c.in-Some.turn.place x) (with_items_is c.loop-turn.seats new long)) in
+    let further = runs_further c.args.table.now c.args.hands.items (cable (numbered c.args.places.now)) (numbered c.args.wakes.now) c.args.horizon list new c.loop-turn.moment c.in-Some.turn.place c.in-Some.turn.moment x c.begin.new.seat
+    c.in_ok-begun.begun c.in_ok-seats.ensures.valid c.requires.hands turn c.in-Some.ensures.turn.1 c.in_ok-begun.ensures in
+    subst (λ (l : List Entry). 129 * c.args.horizon - rank l < 129 * c.args.horizon - rank list) (sym c.in_ok-push.ensures.items) further.less
 
 pub loop-turn-preserved : goal.loop-turn-preserved
 loop-turn-preserved c =
@@ -135,29 +84,34 @@ loop-turn-preserved c =
     let hands = c.args.hands.items in
     let delay = cable (numbered c.args.places.now) in
     let wake = numbered c.args.wakes.now in
-    let list = c.loop-turn.list.items in
-    let seats = c.loop-turn.seats.items in
+    let new = c.next_turn.new.seats in
+    let long : length new ≡ c.loop-turn.seats.len = c.next_turn.ensures.follow.same_length ∙ c.deref_mut.ensures.len in
+    let x = c.index_mut.result.now in
+    let y = c.begin.new.seat in
     let p = c.in-Some.turn.place in
     let u = c.in-Some.turn.moment in
-    let turn : IsTurn seats p u = subst (λ (xs : List Seat). IsTurn xs p u) c.deref-in-loop-turn.ensures.value c.in-Some.ensures.0 in
-    let new = c.attend_all-in-Some.new.seats in
-    let set_seats = set seats p c.begin.new.seat in
-    let pushed : c.push.new.self.items ≡ list ++ c.in_ok-begun.begun ∷ [] = c.in_ok-push.ensures.items in
-    let each : Each (Attended delay (list ++ c.in_ok-begun.begun ∷ []) u) set_seats new =
-    subst (λ (xs : List Seat). Each (Attended delay (list ++ c.in_ok-begun.begun ∷ []) u) xs new) c.deref_mut-in-Some.ensures.value
-    (subst (λ (l : List Entry). Each (Attended delay l u) c.deref_mut-in-Some.result.now new) (c.deref-in-Some.ensures.value ∙ pushed) c.attend_all-in-Some.ensures) in
-    let further = runs_further table hands delay wake c.args.horizon list seats new p u c.index_mut.result.now c.begin.new.seat c.in_ok-begun.begun c.in_ok-seats.ensures.valid c.requires.hands c.loop-turn.invariant turn
-    c.in-Some.ensures.1 c.index_mut.ensures.value c.in_ok-begun.ensures each in
-    let long : length new ≡ c.loop-turn.seats.len = c.attend_all-in-Some.ensures.same_length ∙ ap length c.deref_mut-in-Some.ensures.value ∙ length-set seats p c.begin.new.seat ∙ sym c.loop-turn.seats.ok.0 in
-    subst (λ (xs : List Seat). RunsTo table hands delay wake c.args.horizon c.push.new.self.items xs) (sym (with_items_is (with_item c.loop-turn.seats p c.begin.new.seat) new long))
-    (subst (λ (l : List Entry). RunsTo table hands delay wake c.args.horizon l new) (sym pushed) further.runs)
+    let list = c.loop-turn.list.items in
+    let turn = takes_turn table hands delay wake c.args.horizon list c.deref.result.now c.loop-turn.seats.items c.deref_mut.result.now new
+    c.loop-turn.moment p u x c.deref.ensures.value c.deref_mut.ensures.value c.loop-turn.invariant c.next_turn.ensures.follow c.in-Some.ensures.attended c.in-Some.ensures.turn.0
+    (c.index_mut.ensures.value ∙ ap (λ (xs : List Seat). get_or xs p x) (with_items_is c.loop-turn.seats new long)) in
+    let further = runs_further table hands delay wake c.args.horizon list new c.loop-turn.moment p u x y c.in_ok-begun.begun c.in_ok-seats.ensures.valid c.requires.hands turn c.in-Some.ensures.turn.1 c.in_ok-begun.ensures in
+    subst (λ (xs : List Seat). RunsTo table hands delay wake c.args.horizon c.push.new.self.items (set xs p y) u) (sym (with_items_is c.loop-turn.seats new long))
+    (subst (λ (l : List Entry). RunsTo table hands delay wake c.args.horizon l (set new p y) u) (sym c.in_ok-push.ensures.items) further.runs)
 
 pub returns-clause-lawful : goal.returns-clause-lawful
 returns-clause-lawful c =
-    runs_whole c.args.table.now c.args.hands.items (cable (numbered c.args.places.now)) (numbered c.args.wakes.now) c.args.horizon c.loop-turn.list.items c.loop-turn.seats.items c.loop-turn.invariant
-    (subst (λ (xs : List Seat). NobodyBefore xs c.args.horizon) c.deref-in-loop-turn.ensures.value c.in_default.ensures)
+    let delay = cable (numbered c.args.places.now) in
+    let new = c.next_turn.new.seats in
+    let follow = subst (λ (xs : List Seat). Each (Follows delay c.loop-turn.list.items c.loop-turn.moment) xs new) c.deref_mut.ensures.value
+    (subst (λ (l : List Entry). Each (Follows delay l c.loop-turn.moment) c.deref_mut.result.now new) c.deref.ensures.value c.next_turn.ensures.follow) in
+    runs_whole c.args.table.now c.args.hands.items delay (numbered c.args.wakes.now) c.args.horizon c.loop-turn.list.items new c.loop-turn.moment
+    (runs_on c.args.table.now c.args.hands.items delay (numbered c.args.wakes.now) c.args.horizon c.loop-turn.list.items c.loop-turn.seats.items new c.loop-turn.moment c.loop-turn.invariant follow) c.in_default.ensures.turn
 
 pub returns-clause-only : goal.returns-clause-only
 returns-clause-only c other =
-    runs_only c.args.table.now c.args.hands.items (cable (numbered c.args.places.now)) (numbered c.args.wakes.now) c.args.horizon c.loop-turn.list.items other c.loop-turn.seats.items c.in_ok-seats.ensures.valid c.requires.hands c.loop-turn.invariant
-    (subst (λ (xs : List Seat). NobodyBefore xs c.args.horizon) c.deref-in-loop-turn.ensures.value c.in_default.ensures)
+    let delay = cable (numbered c.args.places.now) in
+    let new = c.next_turn.new.seats in
+    let follow = subst (λ (xs : List Seat). Each (Follows delay c.loop-turn.list.items c.loop-turn.moment) xs new) c.deref_mut.ensures.value
+    (subst (λ (l : List Entry). Each (Follows delay l c.loop-turn.moment) c.deref_mut.result.now new) c.deref.ensures.value c.next_turn.ensures.follow) in
+    runs_only c.args.table.now c.args.hands.items delay (numbered c.args.wakes.now) c.args.horizon c.loop-turn.list.items other new c.loop-turn.moment c.in_ok-seats.ensures.valid c.requires.hands
+    (runs_on c.args.table.now c.args.hands.items delay (numbered c.args.wakes.now) c.args.horizon c.loop-turn.list.items c.loop-turn.seats.items new c.loop-turn.moment c.loop-turn.invariant follow) c.in_default.ensures.turn
