@@ -33,14 +33,36 @@ fn put_all_taken<K: Sink>(text: &mut TextBuffer, sink: &mut K)
     text.put(sink, b" TAKE lines, and this one has them.\n");
 }
 
+/// Puts that a line can't stand there for its beginning.
+fn put_misplaced<K: Sink>(text: &mut TextBuffer, sink: &mut K)
+    ensures { Adds K.held K.faults sink.old sink.new text.old text.new (unread.barred_text None) }
+{
+    text.put(sink, b"a line that begins so can't stand here.\n");
+}
+
+/// Puts why a line of a keyword can't stand there, of which there are as many as there may be.
+fn put_spent<K: Sink>(text: &mut TextBuffer, sink: &mut K, keyword: Keyword)
+    ensures { Adds K.held K.faults sink.old sink.new text.old text.new (unread.barred_text (Some keyword)) }
+{
+    match keyword {
+        Keyword::Send => put_all_sent(text, sink),
+        Keyword::Take => put_all_taken(text, sink),
+        Keyword::Table => put_misplaced(text, sink),
+        Keyword::Mode => put_misplaced(text, sink),
+        Keyword::Ti => put_misplaced(text, sink),
+        Keyword::Sg => put_misplaced(text, sink),
+        Keyword::Sender => put_misplaced(text, sink),
+        Keyword::Listener => put_misplaced(text, sink),
+    }
+}
+
 /// Puts why a line can't stand there: for its number where such a line is spent, or for its beginning.
 fn put_barred<K: Sink>(text: &mut TextBuffer, sink: &mut K, spent: Option<Keyword>)
     ensures { Adds K.held K.faults sink.old sink.new text.old text.new (unread.barred_text spent) }
 {
     match spent {
-        Some(Keyword::Send) => put_all_sent(text, sink),
-        Some(Keyword::Take) => put_all_taken(text, sink),
-        _ => text.put(sink, b"a line that begins so can't stand here.\n"),
+        Some(keyword) => put_spent(text, sink, keyword),
+        None => put_misplaced(text, sink),
     }
 }
 
