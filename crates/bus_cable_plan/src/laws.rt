@@ -1,4 +1,5 @@
-//! Laws of the definitions, each the contract of a function that does nothing.
+//! Laws of plans for a cable: what they bear, that nothing greater is borne, and how gaps share. Each is the contract of a function
+//! that does nothing.
 ghost use Rattle.bus_cable_plan.specs.Laws.{BorneFitsTurns, BorneHasLeast, BorneInOrder, FeasibleForExactly, FittingIsBorne, NoneShareMore};
 ghost use Rattle.bus_cable_plan.specs.Laws.{NoneShareMoreInOrder};
 ghost use Rattle.bus_cable_plan.specs.Meaning.{BestIsRight, MostBorneIsRight, PlansAreRight};

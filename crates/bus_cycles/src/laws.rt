@@ -1,4 +1,5 @@
-//! Laws of the definitions, each the contract of a function that does nothing.
+//! Laws of the picture with a row for each cycle: its rows, boxes, marks and numbers. Each is the contract of a function that does
+//! nothing.
 ghost use Rattle.bus_cycles.specs.Laws.{BreachHidesNone, BreachIsAtItsMoment, BreachWordHidesNone, CountsAreOfRows, EachIsDueOnce};
 ghost use Rattle.bus_cycles.specs.Laws.{FaultHidesNone, FaultsAreMarked, NoFaultIsMarked};
 ghost use Rattle.bus_cycles.specs.Laws.{HatchedAreDrawnLast, HatchedAreGarbled, KeptAreDrawn, LeftOutAreCovered, LengthsAreOfRows};

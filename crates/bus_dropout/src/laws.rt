@@ -1,4 +1,4 @@
-//! Laws of the definitions, each the contract of a function that does nothing.
+//! Laws of the drop-out schedule. Each is the contract of a function that does nothing.
 ghost use Rattle.bus_dropout.specs.Laws.{DropOutIsLawful, EvenDropOutIsClosed, EvenHandsAreLong};
 
 use bus_medium::laws::one_lawful_list;

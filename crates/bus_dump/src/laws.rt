@@ -1,4 +1,4 @@
-//! Laws of the definitions, each the contract of a function that does nothing.
+//! Laws of dumps, their lanes and their save files. Each is the contract of a function that does nothing.
 ghost use Rattle.bus_dump.specs.Laws.{BitsArePulses, BreachIsTold, CarrierIsTold, ClearListsShowNone, DumpsAreRead};
 ghost use Rattle.bus_dump.specs.Laws.{GarbledAreTold};
 ghost use Rattle.bus_dump.specs.Laws.{IdentifiersDiffer, LabelsAreTold, LanesAreTerminals, LawfulIsSingle, MessagesAreTold};

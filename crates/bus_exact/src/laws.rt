@@ -1,4 +1,4 @@
-//! Laws of the definitions, each the contract of a function that does nothing.
+//! Laws of exact clocks, a case of those that are not. Each is the contract of a function that does nothing.
 ghost use Rattle.bus_exact.specs.Exact.{LawfulIsCourse, LawfulIsInOrder};
 ghost use Rattle.bus_exact.specs.Settling.{AnyStartSettlesOnCable, LongHandsLast};
 

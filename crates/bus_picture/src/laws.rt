@@ -1,4 +1,4 @@
-//! Laws of the definitions, each the contract of a function that does nothing.
+//! Laws of the time line: its boxes, marks, tints and numbers. Each is the contract of a function that does nothing.
 ghost use Rattle.bus_picture.specs.GapLaws.{GapsAreAll, GapsAreTrue, LastGapsAreTrue, SyncGapsAreTrue};
 ghost use Rattle.bus_picture.specs.GapLaws.{IntervalsAreAll, IntervalsAreTrue, LastIntervalsAreTrue};
 ghost use Rattle.bus_picture.specs.FaultLaws.{CableIsUnmarked, FaultsAreMarked, FaultsHaveLanes, NoneIsMarked};

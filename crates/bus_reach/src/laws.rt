@@ -1,4 +1,5 @@
-//! Laws of the definitions, each the contract of a function that does nothing.
+//! Laws of order on a cable with length, of late joiners, and of order from any start. Each is the contract of a function that does
+//! nothing.
 ghost use Rattle.bus_medium.specs.CableLaws.{NoDelayIsTheBus, OneCableListOfATable};
 ghost use Rattle.bus_reach.specs.Laws.{BorneIsClosed, BorneIsKept, NoDelayIsClosed, ShorterIsBorne, ToleranceIsExact, ZeroIsBorne};
 ghost use Rattle.bus_reach.specs.Laws.{JoinersComeSoon, JoiningIsOrderly, MembersStay, NeighboursTellBearing};

@@ -1,4 +1,4 @@
-//! Laws of the definitions, each the contract of a function that does nothing.
+//! Laws of recordings beside an audit. Each is the contract of a function that does nothing.
 ghost use Rattle.bus_recording_lawful.specs.Faultless.{LawfulHasNoFault};
 ghost use Rattle.bus_recording_lawful.specs.Lawful.{AuditedIsClean, LawfulIsClean, CleanStartIsAllowed, TableIsClean};
 ghost use Rattle.bus_recording_lawful.specs.Whole.{AuditIsTold, LawfulIsTold};

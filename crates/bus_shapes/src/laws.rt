@@ -1,4 +1,4 @@
-//! Laws of the definitions, each the contract of a function that does nothing.
+//! Laws of places, marks and transmissions in a picture. Each is the contract of a function that does nothing.
 ghost use Rattle.bus_shapes.specs.LaterLaws.{LaterIsNext, NoneIsLater};
 ghost use Rattle.bus_shapes.specs.Laws.{MarksAreExact, PlacesLieWithin, PlacesRise, SentsAreTold};
 

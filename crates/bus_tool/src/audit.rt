@@ -1,4 +1,4 @@
-//! `audit`.
+//! The command `audit`: the first breach of a trace, or that there is none.
 ghost use Rattle.std.specs.Prelude.{◌≡◌};
 ghost use Rattle.bus_tool.specs.inside.Acting.{EndsOnTrace};
 ghost use Rattle.bus_tool.specs.Due.{audit_outcome as outcome_of};

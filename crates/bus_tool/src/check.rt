@@ -1,4 +1,4 @@
-//! `check`.
+//! The command `check`: the verdict line of a table.
 ghost use Rattle.std.specs.Prelude.{◌≡◌};
 ghost use Rattle.bus_tool.specs.inside.Acting.{EndsOnTable};
 ghost use Rattle.bus_tool.specs.Due.{verdict_outcome as outcome_of};

@@ -1,4 +1,4 @@
-//! `diagnose`.
+//! The command `diagnose`: what is found in a trace as a recording of a real bus.
 ghost use Rattle.std.specs.Prelude.{◌≡◌, ◌≤◌};
 ghost use Rattle.bus_tool.specs.inside.Acting.{EndsOnTrace};
 ghost use Rattle.bus_tool.specs.Due as due;

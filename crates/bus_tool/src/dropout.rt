@@ -1,4 +1,4 @@
-//! `drop`.
+//! The command `drop`: a run in which senders fall silent when their messages are spent.
 ghost use Rattle.std.specs.Prelude.{◌≡◌, ◌≤◌, ◌<◌, IfErr, IfOk, IfSome, IsTrue};
 ghost use Rattle.bus_dropout.specs.DropOut.{LastIsLong};
 ghost use Rattle.bus_table.specs.declared.mode.Mode.TheVariants.{Aperiodic};

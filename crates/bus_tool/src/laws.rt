@@ -1,4 +1,4 @@
-//! Laws of the definitions, each the contract of a function that does nothing.
+//! Laws of what the commands write. Each is the contract of a function that does nothing.
 ghost use Rattle.bus_tool.specs.DrillLaws.{DrillsAreAccepted};
 ghost use Rattle.bus_tool.specs.TextLaws.{OneCommandText, AnswersHaveTexts, SendersHaveHolds};
 ghost use Rattle.bus_tool.specs.TextLaws.{ObservedIsFoundLawful, RunIsFoundLawful, DropIsFoundLawful, RunIsReceivedBehind};

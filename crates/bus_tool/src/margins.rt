@@ -1,4 +1,4 @@
-//! `margins`.
+//! The command `margins`: how much room a table leaves within bounds.
 ghost use Rattle.std.specs.Prelude.{◌≡◌};
 ghost use Rattle.bus_outer.specs.Sinks.{WritesText};
 ghost use Rattle.bus_tool.specs.inside.Acting.{EndsOnTable};

@@ -1,4 +1,4 @@
-//! `observe`.
+//! The command `observe`: what a bus does up to a horizon.
 ghost use Rattle.std.specs.Prelude.{◌≡◌, ◌≤◌, ◌<◌, ◌^◌, length, IfErr, IfOk, IsTrue};
 ghost use Rattle.std.specs.List.{AllByRecursion};
 ghost use Rattle.bus_table.specs.Hands.{are_hands};

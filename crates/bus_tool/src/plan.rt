@@ -1,4 +1,4 @@
-//! `plan`.
+//! The command `plan`: offsets of a periodic table.
 ghost use Rattle.std.specs.Prelude.{◌≡◌};
 ghost use Rattle.bus_outer.specs.Sinks.{WritesText};
 ghost use Rattle.bus_outer.specs.Texts.{Adds};

@@ -1,4 +1,4 @@
-//! `run`.
+//! The command `run`: what the senders of an accepted table do, and what each terminal receives.
 ghost use Rattle.std.specs.Prelude.{◌≡◌, IfErr, IfOk, IsTrue};
 ghost use Rattle.bus_command.specs.Kinds.{kind_of};
 ghost use Rattle.bus_command.specs.Stages.{Gives};

@@ -1,4 +1,4 @@
-//! `schedule`.
+//! The command `schedule`: the closed schedule, without a bus.
 ghost use Rattle.std.specs.Prelude.{◌≡◌, IfErr};
 ghost use Rattle.bus_command.specs.Kinds.{kind_of};
 ghost use Rattle.bus_command.specs.Stages.{Gives};

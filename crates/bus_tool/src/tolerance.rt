@@ -1,4 +1,4 @@
-//! `tolerance`.
+//! The command `tolerance`: how much delay a table bears.
 ghost use Rattle.std.specs.Prelude.{◌≡◌, IsTrue};
 ghost use Rattle.bus_outer.specs.Sinks.{WritesText};
 ghost use Rattle.bus_outer.specs.Texts.{Adds};

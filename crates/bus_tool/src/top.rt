@@ -1,4 +1,4 @@
-//! The top call.
+//! The top call: the command of some words, over two sources and two sinks.
 ghost use Rattle.bus_command.specs.Outside.{call};
 ghost use Rattle.bus_tool.specs.Acts.{ComesOf};
 ghost use Rattle.bus_tool.specs.Promises.{Promises};

@@ -1,4 +1,4 @@
-//! `wave`.
+//! The command `wave`: the wave text of a trace.
 ghost use Rattle.bus_tool.specs.inside.Acting.{EndsOnTrace};
 ghost use Rattle.bus_tool.specs.Forms.{Wave};
 ghost use Rattle.bus_trace.specs.Traces.{IsTrace};

@@ -1,4 +1,4 @@
-//! `witness`.
+//! The command `witness`: messages with which a refused table fails.
 ghost use Rattle.bus_tool.specs.inside.Acting.{EndsOnTable};
 ghost use Rattle.bus_tool.specs.Forms.{Witness};
 

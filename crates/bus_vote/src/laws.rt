@@ -1,4 +1,4 @@
-//! Laws of the definitions, each the contract of a function that does nothing.
+//! Laws of votes. Each is the contract of a function that does nothing.
 ghost use Rattle.bus_vote.specs.VoteLaws.{RunsAreVoted, ListsAreFixedByTwo, VotedAreWritten, TwoFixTheVote};
 
 use bus_schedule::laws::accepted_is_closed;

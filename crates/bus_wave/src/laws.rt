@@ -1,4 +1,4 @@
-//! Laws of the definitions, each the contract of a function that does nothing.
+//! Laws of waves, and of the traces that they tell. Each is the contract of a function that does nothing.
 ghost use Rattle.bus_wave.specs.WaveLaws.{SpacedPasses, SpacedHaveTexts, WavesReadBack, ReadsOnlyWaves, WavesTell};
 ghost use Rattle.bus_wave.specs.WaveLaws.{RunsAreSpaced, RunsAreWaveTraces};
 
