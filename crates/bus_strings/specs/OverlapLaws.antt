@@ -1,10 +1,10 @@
 -- What follows of overlaps and garbled entries.
 -- The contract of `laws::neighbours_tell` says that each of these holds.
-use Rattle.std.specs.Prelude.{◌≡◌, ℕ, ◌+◌, ◌<◌, ◌≤◌, ◌↔◌, true, false, ◌||◌, nat_lt, List, length, take, slice_get, Some}
-use Rattle.std.specs.List.{list_any, AllByRecursion}
+use Rattle.std.specs.Prelude.{◌≡◌, ℕ, ◌+◌, ◌<◌, ◌≤◌, ◌↔◌, true, false, ◌||◌, nat_lt, List, length, map, take, slice_get, Some}
+use Rattle.std.specs.List.{list_any, zip, AllByRecursion}
 use Rattle.std.specs.Option.{option_map_or}
 use Rattle.bus_strings.specs.Messages.{Entry}
-use Rattle.bus_strings.specs.Transmissions.{end_of, overlaps, garbled, IsByMoment, IsAscending}
+use Rattle.bus_strings.specs.Transmissions.{end_of, overlaps, garbled, marks, IsByMoment, IsAscending, IsClear}
 
 -- A moment lies in the span of a transmission.
 pub record IsWithin (x : Entry) (t : ℕ) : Type 0 where
@@ -28,3 +28,7 @@ NeighboursTell =
 -- A list in strict order is ordered by moment.
 abbrev pub AscendingIsByMoment : Type 0
 AscendingIsByMoment = (list : List Entry) → IsAscending list → IsByMoment list
+
+-- In a list without overlaps nothing is garbled.
+abbrev pub ClearIsUnmarked : Type 0
+ClearIsUnmarked = (list : List Entry) → IsClear list → zip list (marks list) ≡ map (λ x. (x, false)) list

@@ -7,7 +7,7 @@ ghost use Rattle.bus_text.specs.declared.reason.Reason.TheVariants.{Spelling};
 ghost use Rattle.bus_strings.specs.Items.{numbers, is_in_range as range_test, IsItem};
 ghost use Rattle.bus_strings.specs.Limits.{most_words};
 ghost use Rattle.bus_strings.specs.inside.Building.{ReadsAlike, Takes, Refuses};
-ghost use Rattle.bus_strings.specs.Reading.{are_spelled, strings_of, HasFront, item_reading};
+ghost use Rattle.bus_strings.specs.Reading.{are_spelled, is_colon as colon_test, strings_of, HasFront, item_reading};
 
 use crate::limits::{MOST_STRINGS, MOST_TERMINAL, MOST_WORDS};
 use crate::payload::Payload;
@@ -34,6 +34,16 @@ fn take_words(words: &mut Vec<u16>, fields: &mut Fields<'_>) -> Result<(), Alloc
     Ok(())
 }
 
+/// Whether a field is the colon behind a wordstring.
+fn is_colon(field: &[u8]) -> bool
+    ensures { result ≡ colon_test field.now }
+{
+    match field {
+        [byte] => *byte == b':',
+        _ => false,
+    }
+}
+
 /// Takes a field, which is a data word more or the colon behind a wordstring.
 fn take_field(
     alloc: Global,
@@ -44,7 +54,7 @@ fn take_field(
     ensures taken { OnOk result (Takes field.now (numbers strings.old.items) words.old.items (numbers strings.new.items) words.new.items) }
     ensures refused { IfErr result (λ fault. Refuses fault field.now (numbers strings.old.items) words.old.items) }
 {
-    if field == COLON {
+    if is_colon(field) {
         strings.push(Vec::from_slice(alloc, words)?)?;
         words.clear();
         return Ok(());

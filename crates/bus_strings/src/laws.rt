@@ -5,7 +5,7 @@ ghost use Rattle.bus_strings.specs.Grammar.{IsMessagesText};
 ghost use Rattle.bus_strings.specs.Reading.{messages_reading};
 ghost use Rattle.bus_strings.specs.PulseLaws.{FirstIsOn, LastIsOn, QuietBehind, PulseSoon, OnWithinPulse, NextPulse, LastPulseEnds};
 ghost use Rattle.bus_strings.specs.Shares.{SharesAreNearest};
-ghost use Rattle.bus_strings.specs.OverlapLaws.{OverlapsMeet, NeighboursTell, AscendingIsByMoment};
+ghost use Rattle.bus_strings.specs.OverlapLaws.{OverlapsMeet, NeighboursTell, AscendingIsByMoment, ClearIsUnmarked};
 
 /// A messages text reads as its items, of which it has no more than bytes, and what reads as items is a messages text of them. Laws, with
 /// no work.
@@ -27,11 +27,12 @@ pub fn pulses_cover()
 {}
 
 /// Two transmissions overlap exactly where some moment lies in the spans of both; and in a list that is ordered by
-/// moment the entries before an entry and the next one tell whether it is garbled. Laws, with no work.
+/// moment the entries before an entry and the next one tell whether it is garbled, and where none overlap, none is. Laws, with no work.
 pub fn neighbours_tell()
     ensures meet { OverlapsMeet }
     ensures neighbours { NeighboursTell }
     ensures ascending { AscendingIsByMoment }
+    ensures clear { ClearIsUnmarked }
 {}
 
 /// A share is the nearest number of tenths of a percent, a half up. A law, with no work.

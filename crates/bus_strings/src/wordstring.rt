@@ -15,7 +15,7 @@ use std::rc::Rc;
 pub const SHORT: usize = 9;
 
 /// As many as one keeps in a block of one size.
-const MIDDLE: usize = 48;
+const MIDDLE: usize = 40;
 
 /// One label word, and 0 to 256 data words behind it. How many there may be is this project's profile.
 #[derive(Debug, Drop)]
@@ -24,7 +24,8 @@ pub struct Wordstring {
 }
 
 /// Where the data words are. Lists of short messages are what takes most memory, so each case has at most 24 bytes: its own label and
-/// extension, which then take no room beside the words, and no more than two words of the machine. Words in memory are shared by all copies.
+/// extension, which then take no room beside the words, and no more than two words of the machine. Words in memory are shared by all
+/// copies.
 #[derive(Debug, Drop)]
 enum Kept {
     // The first so many of these.
@@ -121,8 +122,8 @@ fn long(
 
 impl Wordstring {
     /// None where there are more than 256 data words. Up to [`SHORT`] of them are kept in the wordstring itself, which takes no memory, and
-    /// that of the `Vec` is given back. More stay in it, and its place takes one small block: where there is no memory for that, all the
-    /// words are given back.
+    /// up to 40 in one block of 96 bytes; that of the `Vec` is given back then. More stay in it, and its place takes one small block. Where
+    /// there is no memory for a block, all the words are given back.
     pub fn new(
         label: Label,
         ext: Ext,
@@ -143,11 +144,17 @@ impl Wordstring {
             let count = words.len() as u8;
             return Ok(Some(Wordstring::short(label, ext, count, in_front(&words))));
         }
+        if words.len() <= MIDDLE {
+            return match middle(*words.allocator(), label, ext, &words) {
+                Ok(kept) => Ok(Some(Wordstring { kept })),
+                Err(_) => Err(AllocFailed { value: words }),
+            };
+        }
         let kept = long(*words.allocator(), label, ext, words)?;
         Ok(Some(Wordstring { kept }))
     }
 
-    /// Of at most 256 data words. Up to [`SHORT`] of them take no memory, up to 48 one block of 112 bytes, and more what they need and the
+    /// Of at most 256 data words. Up to [`SHORT`] of them take no memory, up to 40 one block of 96 bytes, and more what they need and the
     /// place of a `Vec`.
     pub fn of(
         alloc: Global,

@@ -12,7 +12,7 @@ most_short = 9
 
 -- How many it keeps in a block of one size.
 abbrev pub most_middle : ℕ
-most_middle = 48
+most_middle = 40
 
 -- The wordstring that is kept.
 abbrev pub kept_string : Kept → Wordstring

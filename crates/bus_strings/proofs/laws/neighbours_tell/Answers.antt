@@ -1,3 +1,4 @@
+use Rattle.bus_strings.proofs.ClearLaws.{unmarked}
 use Rattle.bus_strings.proofs.OverlapLemmas.{overlaps_meet, neighbours_tell, ascending_is_by_moment}
 use Rattle.bus_strings.proofs.laws.neighbours_tell.Goals as goal
 
@@ -6,4 +7,5 @@ returns c = record {
   meet = overlaps_meet;
   neighbours = neighbours_tell;
   ascending = ascending_is_by_moment;
+  clear = unmarked;
 }
