@@ -4,17 +4,19 @@ use Rattle.std.proofs.Common.{refl, ap, sym, ◌∙◌, subst, append-nil}
 use Rattle.std.specs.List.{filter, flat_map, sum_by, zip}
 use Rattle.std.specs.Option.{option_map_or}
 use Rattle.std.proofs.lemmas.Bool.{ne_eqb}
-use Rattle.std.proofs.lemmas.List.{take_more, get_or_default, get_or-map, map-append, length-map}
+use Rattle.std.proofs.lemmas.Simd.{map-map}
+use Rattle.std.proofs.lemmas.List.{take_all, take_more, get_or_default, get_or-map, map-append, length-map}
 use Rattle.std.proofs.lemmas.Option.{slice_get_within}
 use Rattle.std.proofs.lemmas.Slice.Zip.{get_or-zip, length-zip}
 use Rattle.bus_strings.specs.Messages.{Wordstring, Entry}
-use Rattle.bus_strings.specs.Transmissions.{marks}
+use Rattle.bus_strings.specs.OverlapLaws.{ClearIsUnmarked}
+use Rattle.bus_strings.specs.Transmissions.{marks, IsClear}
 use Rattle.bus_strings.proofs.ListLaws.{flat_map-more}
 use Rattle.bus_strings.proofs.MarkLaws.{length-marks}
 use Rattle.bus_table.specs.declared.line.TakeLine.{TakeLine}
 use Rattle.bus_filter.specs.Received.{Taker, ReceivedLine, matches, received_line, string_lines, entry_lines, is_heard}
 use Rattle.bus_filter.specs.ReceivedTexts.{line_text}
-use Rattle.bus_filter.specs.inside.Keys.{AreSpans, AreKeys, NoneTaken, key, message_key, of_label, key_count, silent}
+use Rattle.bus_filter.specs.inside.Keys.{AreSpans, AreKeys, NoneTaken, key, keys, message_key, of_label, key_count, silent}
 use Rattle.bus_filter.specs.inside.Putting.{string_put, entry_put, marked_put, string_count, marked_count}
 use Rattle.bus_filter.proofs.PutLemmas.{string_is, marked_is}
 use Rattle.bus_filter.proofs.CountLemmas.{string_counted, marked_counted}
@@ -163,6 +165,22 @@ pub key_more : (list : List Entry) (i : ℕ) (x : Entry) (g : Bool) (some more :
 key_more list i x g some more k next is e before =
     e ∙ ap (λ t. t ++ k ∷ []) before ∙ ap (λ n. map key (take i (zip list (marks list))) ++ n ∷ []) is
     ∙ sym (map-append key (take i (zip list (marks list))) ((x, g) ∷ [])) ∙ ap (map key) (sym next)
+
+-- one more key where nothing overlaps
+pub clear_more : (list : List Entry) (i : ℕ) (x : Entry) (some more : List ℕ) (k : ℕ) → x ≡ get_or list i x → i < length list → k ≡ key (x, false)
+    → more ≡ some ++ k ∷ [] → some ≡ map (λ y. key (y, false)) (take i list) → more ≡ map (λ y. key (y, false)) (take (i + 1) list)
+clear_more list i x some more k at within is e before =
+    let clear_key : Entry → ℕ = λ y. key (y, false) in
+    e ∙ ap (λ t. t ++ k ∷ []) before ∙ ap (λ n. map clear_key (take i list) ++ n ∷ []) is
+    ∙ sym (map-append clear_key (take i list) (x ∷ []))
+    ∙ ap (map clear_key) (sym (take_more list i x within ∙ ap (λ y. take i list ++ y ∷ []) (sym at)))
+
+-- which are all of them, since none is marked
+pub clear_keys : (list : List Entry) (i : ℕ) (given : List ℕ) → ClearIsUnmarked → IsClear list → length list ≤ i
+    → given ≡ map (λ y. key (y, false)) (take i list) → given ≡ keys list
+clear_keys list i given law clear past are =
+    are ∙ ap (map (λ (y : Entry). key (y, false))) (take_all i list past)
+    ∙ sym (map-map key (λ (y : Entry). (y, false)) list) ∙ ap (map key) (sym (law list clear))
 
 -- of which none is out of range
 pub low_more : (some more : List ℕ) (k : ℕ) → more ≡ some ++ k ∷ [] → k < key_count → ((i : ℕ) → get_or some i 0 < key_count) → (i : ℕ) → get_or more i 0 < key_count

@@ -1,10 +1,11 @@
 //! What each transmission of a list is looked up by, found by one pass over it.
 ghost use Rattle.std.specs.Prelude.{◌≡◌, ◌<◌, [], IsTrue, IfSome};
-ghost use Rattle.bus_strings.specs.Transmissions.{IsByMoment};
+ghost use Rattle.bus_strings.specs.Transmissions.{IsByMoment, IsClear};
 ghost use Rattle.bus_filter.specs.inside.Keys as inside;
 ghost use Rattle.bus_filter.specs.inside.Keys.{key_count, AreKeys};
 
 use arrayvec::ArrayVec;
+use bus_strings::laws::neighbours_tell;
 use bus_strings::{Marks, Message, Transmission};
 
 /// The key of a message of several wordstrings. The key of one is its label.
@@ -61,6 +62,21 @@ fn gather(keys: &mut Keys, list: &[Transmission]) -> bool
     true
 }
 
+/// Gathers the keys of a list without overlaps, of which none is garbled. False where there is no room for all.
+fn gather_clear(keys: &mut Keys, list: &[Transmission]) -> bool
+    requires clear { IsClear list.now }
+    requires none { keys.old.items ≡ [] }
+    ensures { IsTrue result → AreKeys keys.new.items list.now }
+{
+    neighbours_tell();
+    for x in list {
+        if keys.try_push(key(x, false)).is_err() {
+            return false;
+        }
+    }
+    true
+}
+
 /// The keys of a list, where there is room for all.
 pub(crate) fn gathered<'a>(room: &'a mut Keys, list: &[Transmission]) -> Option<&'a [u16]>
     requires order { IsByMoment list.now }
@@ -68,6 +84,19 @@ pub(crate) fn gathered<'a>(room: &'a mut Keys, list: &[Transmission]) -> Option<
     ensures { IfSome result (λ keys. AreKeys keys.now list.now) }
 {
     if gather(room, list) {
+        Some(room.as_slice())
+    } else {
+        None
+    }
+}
+
+/// The keys of a list without overlaps, where there is room for all.
+pub(crate) fn gathered_clear<'a>(room: &'a mut Keys, list: &[Transmission]) -> Option<&'a [u16]>
+    requires clear { IsClear list.now }
+    requires none { room.old.items ≡ [] }
+    ensures { IfSome result (λ keys. AreKeys keys.now list.now) }
+{
+    if gather_clear(room, list) {
         Some(room.as_slice())
     } else {
         None

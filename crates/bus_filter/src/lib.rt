@@ -4,8 +4,8 @@
 //! extension, or of any, and takes the data words with positions `first` to `first + count - 1`, as far as they exist. The
 //! receive lines, their ranges and the text are this project's profile.
 //!
-//! - [`write_received`] writes what each terminal of a table receives of a list of transmissions, and [`count_received`] counts its
-//!   lines.
+//! - [`write_received`] writes what each terminal of a table receives of a list of transmissions, as does [`write_clear_received`] where
+//!   none overlap, and [`count_received`] counts its lines.
 //! - [`Receiver`] does the same for one receive line, word by word.
 //! - [`matches`] says whether a receive line matches.
 //!
@@ -23,9 +23,10 @@ mod matching;
 mod receiver;
 mod skipping;
 mod spans;
+mod terminals;
 mod writing;
 
 pub use counting::count_received;
 pub use matching::matches;
 pub use receiver::{Heard, Receiver};
-pub use writing::write_received;
+pub use terminals::{write_clear_received, write_received};

@@ -1,7 +1,7 @@
 //! Between which indices the receive lines of each label stand.
 ghost use Rattle.std.specs.Prelude.{◌≡◌, ℕ, ◌+◌, ◌<◌, ◌≤◌, IsTrue, IsFalse, length, get_or};
 ghost use Rattle.bus_table.specs.Ranges.{most_takes};
-ghost use Rattle.bus_filter.specs.inside.Keys.{AreSpans, of_label, key_count};
+ghost use Rattle.bus_filter.specs.inside.Keys.{AreSpans, AreNoSpans, of_label, key_count};
 
 use crate::keys::{KEYS, SEVERAL};
 use bus_table::TakeLine;
@@ -50,16 +50,45 @@ fn blank() -> Spans
     }
 }
 
+/// The spans of no lines.
+pub(crate) fn no_spans() -> Spans
+    ensures { AreNoSpans result.first result.behind }
+{
+    let mut spans = blank();
+    spans.behind[usize::from(SEVERAL)] = 1;
+    spans
+}
+
+/// Notes receive lines where none is noted.
+pub(crate) fn note_all(spans: &mut Spans, takes: &[TakeLine])
+    requires few { length takes.now ≤ most_takes }
+    requires none { AreNoSpans spans.old.first spans.old.behind }
+    ensures { AreSpans takes.now (length takes.now) spans.new.first spans.new.behind }
+{
+    for index in 0..takes.len() {
+        note(spans, takes, index);
+    }
+}
+
+/// Takes them out again, so that the room serves for the next terminal.
+pub(crate) fn forget_all(spans: &mut Spans, takes: &[TakeLine])
+    requires { AreSpans takes.now (length takes.now) spans.old.first spans.old.behind }
+    ensures { AreNoSpans spans.new.first spans.new.behind }
+{
+    for line in takes {
+        let label = usize::from(line.label.value());
+        spans.first[label] = 0;
+        spans.behind[label] = 0;
+    }
+}
+
 /// The spans of receive lines.
 pub(crate) fn spans_of(takes: &[TakeLine]) -> Spans
     requires { length takes.now ≤ most_takes }
     ensures { AreSpans takes.now (length takes.now) result.first result.behind }
 {
-    let mut spans = blank();
-    spans.behind[usize::from(SEVERAL)] = 1;
-    for index in 0..takes.len() {
-        note(&mut spans, takes, index);
-    }
+    let mut spans = no_spans();
+    note_all(&mut spans, takes);
     spans
 }
 

@@ -1,23 +1,21 @@
-//! The received text.
-ghost use Rattle.std.specs.Prelude.{◌≡◌, ◌*◌, ◌<◌, ◌≤◌, ◌++◌, Bool, IfSome, length, take};
+//! What a terminal receives of a list, line by line.
+ghost use Rattle.std.specs.Prelude.{◌≡◌, ◌*◌, ◌<◌, ◌≤◌, ◌++◌, Bool, length, take};
 ghost use Rattle.std.specs.List.{flat_map, zip};
-ghost use Rattle.bus_outer.specs.Sinks.{WritesText};
 ghost use Rattle.bus_outer.specs.Texts.{Adds};
 ghost use Rattle.bus_strings.specs.Transmissions.{IsByMoment, marks};
-ghost use Rattle.bus_table.specs.Ranges.{most_takes};
 ghost use Rattle.bus_filter.specs.Received.{Taker, received_line};
-ghost use Rattle.bus_filter.specs.ReceivedTexts.{word_text, line_text, taker_text, received_text};
-ghost use Rattle.bus_filter.specs.inside.Putting.{take_put, string_put, marked_put, sender_put, listener_put};
+ghost use Rattle.bus_filter.specs.ReceivedTexts.{word_text, line_text};
+ghost use Rattle.bus_filter.specs.inside.Putting.{take_put, string_put, marked_put};
 ghost use Rattle.bus_filter.specs.inside.Keys.{key as key_in, key_count, AreKeys, AreSpans};
 
 use crate::digits::{four_bytes, head_bytes, word_bytes};
-use crate::keys::{Keys, gathered, key};
+use crate::keys::key;
 use crate::matching::{matches, selection};
 use crate::skipping::next_taken;
-use crate::spans::{Spans, is_taken, lines_of, spans_of};
-use bus_outer::{Sink, TextBuffer, WriteFault};
+use crate::spans::{Spans, is_taken, lines_of};
+use bus_outer::{Sink, TextBuffer};
 use bus_strings::{Marks, Transmission, Wordstring};
-use bus_table::{Listener, Sender, Table, TakeLine};
+use bus_table::TakeLine;
 
 /// A word behind its space.
 fn put_word<K: Sink>(text: &mut TextBuffer, sink: &mut K, word: u16)
@@ -185,7 +183,7 @@ fn put_keyed<K: Sink>(
 }
 
 /// The RX lines of a list of which the keys are gathered.
-fn put_gathered<K: Sink>(
+pub(crate) fn put_gathered<K: Sink>(
     text: &mut TextBuffer,
     sink: &mut K,
     number: u8,
@@ -207,7 +205,7 @@ fn put_gathered<K: Sink>(
 }
 
 /// The RX lines of a list.
-fn put_list<K: Sink>(
+pub(crate) fn put_list<K: Sink>(
     text: &mut TextBuffer,
     sink: &mut K,
     number: u8,
@@ -225,107 +223,4 @@ fn put_list<K: Sink>(
         let garbled = marks.next() == Some(true);
         put_keyed(text, sink, number, takes, spans, key(x, garbled), x);
     }
-}
-
-/// The RX lines of a terminal. One without receive lines needs no walk.
-fn put_heard<K: Sink>(
-    text: &mut TextBuffer,
-    sink: &mut K,
-    number: u8,
-    takes: &[TakeLine],
-    keys: Option<&[u16]>,
-    list: &[Transmission],
-)
-    requires order { IsByMoment list.now }
-    requires few { length takes.now ≤ most_takes }
-    requires keys { IfSome keys (λ keys. AreKeys keys.now list.now) }
-    ensures { let taker : Taker = record { number = number; takes = takes.now } in
-        Adds K.held K.faults sink.old sink.new text.old text.new (flat_map (marked_put taker) (zip list.now (marks list.now))) }
-{
-    if takes.is_empty() {
-        return;
-    }
-    let spans = spans_of(takes);
-    match keys {
-        Some(keys) => put_gathered(text, sink, number, takes, &spans, keys, list),
-        None => put_list(text, sink, number, takes, &spans, list),
-    }
-}
-
-/// A terminal, and what it receives.
-fn put_taker<K: Sink>(
-    text: &mut TextBuffer,
-    sink: &mut K,
-    number: u8,
-    takes: &[TakeLine],
-    keys: Option<&[u16]>,
-    list: &[Transmission],
-)
-    requires order { IsByMoment list.now }
-    requires few { length takes.now ≤ most_takes }
-    requires keys { IfSome keys (λ keys. AreKeys keys.now list.now) }
-    ensures { let taker : Taker = record { number = number; takes = takes.now } in
-        Adds K.held K.faults sink.old sink.new text.old text.new (taker_text list.now taker) }
-{
-    text.put(sink, b"TERMINAL ");
-    text.put_number(sink, number);
-    text.put_byte(sink, b'\n');
-    put_heard(text, sink, number, takes, keys, list);
-}
-
-/// The senders of a table, and what they receive.
-fn put_senders<K: Sink>(
-    text: &mut TextBuffer,
-    sink: &mut K,
-    senders: &[Sender],
-    keys: Option<&[u16]>,
-    list: &[Transmission],
-)
-    requires order { IsByMoment list.now }
-    requires keys { IfSome keys (λ keys. AreKeys keys.now list.now) }
-    ensures { Adds K.held K.faults sink.old sink.new text.old text.new
-        (flat_map (sender_put list.now) senders.now) }
-{
-    for sender in senders {
-        put_taker(text, sink, sender.number(), sender.takes(), keys, list);
-    }
-}
-
-/// The listeners of a table, and what they receive.
-fn put_listeners<K: Sink>(
-    text: &mut TextBuffer,
-    sink: &mut K,
-    listeners: &[Listener],
-    keys: Option<&[u16]>,
-    list: &[Transmission],
-)
-    requires order { IsByMoment list.now }
-    requires keys { IfSome keys (λ keys. AreKeys keys.now list.now) }
-    ensures { Adds K.held K.faults sink.old sink.new text.old text.new
-        (flat_map (listener_put list.now) listeners.now) }
-{
-    for listener in listeners {
-        put_taker(text, sink, listener.number(), listener.takes(), keys, list);
-    }
-}
-
-/// Writes what each terminal of a table receives of a list of transmissions, in pushes of a few kilobytes. It takes no memory.
-///
-/// The list has to be ordered by moment. At `WriteFault` the sink has taken a front of the text, and its count of faults rose.
-pub fn write_received<K: Sink>(
-    table: &Table,
-    list: &[Transmission],
-    sink: &mut K,
-) -> Result<(), WriteFault>
-    requires { IsByMoment list.now }
-    ensures { WritesText K.held K.faults sink.old sink.new result (received_text table.now list.now) }
-{
-    let mut room = Keys::new();
-    let keys = gathered(&mut room, list);
-    let mut text = TextBuffer::new();
-    text.put(sink, b"RECEIVED 1\n");
-    put_senders(&mut text, sink, table.senders(), keys, list);
-    put_listeners(&mut text, sink, table.listeners(), keys, list);
-    text.put(sink, b"END\n");
-    text.finish(sink)
 }

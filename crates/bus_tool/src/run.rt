@@ -8,6 +8,7 @@ ghost use Rattle.bus_outer.specs.Sinks.{WritesText};
 ghost use Rattle.bus_regime.specs.Verdicts.{verdict_of, is_accepted};
 ghost use Rattle.bus_schedule.specs.Even.{are_even};
 ghost use Rattle.bus_schedule.specs.Uneven.{uneven_of};
+ghost use Rattle.bus_strings.specs.Transmissions.{IsClear};
 ghost use Rattle.bus_table.specs.Hands.{are_hands};
 ghost use Rattle.bus_tool.specs.inside.Acting.{EndsOnMessages};
 ghost use Rattle.bus_tool.specs.Due.{even_due, may_run as may_run_due, can_run};
@@ -20,13 +21,13 @@ use crate::holds::holds;
 use crate::observe::look_at;
 use crate::refusal::{Outcome, ToolRefusal, refuse, refuse_uneven};
 use bus_command::after_writing;
-use bus_filter::write_received;
+use bus_filter::write_clear_received;
 use bus_outer::{Sink, WriteFault};
 use bus_regime::verdict;
 use bus_schedule::{Ran, ScheduleError, find_uneven, run_settled};
 use bus_table::{Hand, Table};
 use bus_timers::DeadlineCore;
-use bus_trace::{Trace, write_trace};
+use bus_trace::{Trace, write_clear_trace};
 use std::alloc::Global;
 
 /// What a command comes to that gets no schedule.
@@ -85,17 +86,18 @@ fn record(alloc: Global, table: &Table, hands: Vec<Hand>) -> Result<Trace, Outco
     }
 }
 
-/// Writes a trace, and behind it what each terminal of the table receives.
+/// Writes a trace in which no two transmissions overlap, and behind it what each terminal of the table receives.
 pub(crate) fn write_run<K: Sink>(
     table: &Table,
     trace: &Trace,
     out: &mut K,
 ) -> Result<(), WriteFault>
-    requires { IsTrace trace.now }
+    requires trace { IsTrace trace.now }
+    requires clear { IsClear trace.now.list }
     ensures { WritesText K.held K.faults out.old out.new result (run_text table.now trace.now) }
 {
-    write_trace(trace, out)?;
-    write_received(table, trace.list(), out)
+    write_clear_trace(trace, out)?;
+    write_clear_received(table, trace.list(), out)
 }
 
 /// Writes the trace of the senders of a table with hands, up to the end of the closed schedule, and behind it what each terminal of the

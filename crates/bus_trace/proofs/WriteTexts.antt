@@ -1,5 +1,5 @@
 -- What is put is the text of the trace.
-use Rattle.std.proofs.Common.{◌≡◌, ℕ, Bool, List, [], ◌∷◌, ◌++◌, codes, map, refl, sym, ap, ◌∙◌, append_assoc, append-nil}
+use Rattle.std.proofs.Common.{◌≡◌, ℕ, Bool, false, List, [], ◌∷◌, ◌++◌, codes, map, refl, sym, ap, ◌∙◌, append_assoc, append-nil}
 use Rattle.std.specs.List.{flat_map, zip, join_with_byte}
 use Rattle.std.specs.Fmt.{decimal}
 use Rattle.std.proofs.lemmas.List.Concat.{flat_map-append}
@@ -8,12 +8,14 @@ use Rattle.bus_words.specs.Words.{label_word, data_word}
 use Rattle.bus_words.specs.WordTexts.{word_text}
 use Rattle.bus_strings.specs.Messages.{Wordstring, Entry}
 use Rattle.bus_trace.specs.declared.hold.Hold.{Hold}
-use Rattle.bus_strings.specs.Transmissions.{end_of, marks}
+use Rattle.bus_strings.specs.OverlapLaws.{ClearIsUnmarked}
+use Rattle.bus_strings.specs.Transmissions.{end_of, marks, IsClear}
+use Rattle.bus_strings.proofs.ListLaws.{flat_map-map}
 use Rattle.bus_trace.specs.declared.format.Format.TheVariants.{Two}
 use Rattle.bus_trace.specs.Traces.{Recording, Line, head_line, horizon_line, hold_line, begin_line, string_line, entry_lines}
 use Rattle.bus_trace.specs.Traces.{mark_text, close_line, marked_lines, list_lines, opening_lines, end_line, trace_text}
 use Rattle.bus_trace.specs.inside.Writing.{data_put, label_put, string_put, pair_put, hold_put, close_put, entry_put, horizon_put, list_put}
-use Rattle.bus_trace.specs.inside.Writing.{trace_put}
+use Rattle.bus_trace.specs.inside.Writing.{opening_put, clear_put, trace_put}
 
 flat_map-same : {X : Type 0} (f g : X → List ℕ) (xs : List X) → ((x : X) → f x ≡ g x) → flat_map f xs ≡ flat_map g xs
 flat_map-same f g [] h = refl
@@ -81,11 +83,20 @@ put_is t =
     ∙ ap (λ x. spelled_lines (opening ++ list_lines Two t.list) ++ x) (sym (append-nil (spelled_line end_line)))
     ∙ sym (flat_map-append spelled_line (opening ++ list_lines Two t.list) (end_line ∷ []))
 
+-- where nothing overlaps
+clear_is : (xs : List Entry) → ClearIsUnmarked → IsClear xs → clear_put xs ≡ list_put xs
+clear_is xs law c = sym (flat_map-map entry_put (λ (x : Entry). (x, false)) xs) ∙ ap (flat_map entry_put) (sym (law xs c))
+
 -- the same, of the parts that were read of the trace
-pub put_as_read : (t : Recording) (h : ℕ) (hs : List Hold) (xs : List Entry) → h ≡ t.horizon → hs ≡ t.holds → xs ≡ t.list
-    → horizon_put h ++ flat_map hold_put hs ++ list_put xs ++ codes "END\n" ≡ trace_text t
-put_as_read t h hs xs a b c =
-    ap (λ x. horizon_put x ++ flat_map hold_put hs ++ list_put xs ++ codes "END\n") a
-    ∙ ap (λ (x : List Hold). horizon_put t.horizon ++ flat_map hold_put x ++ list_put xs ++ codes "END\n") b
-    ∙ ap (λ (x : List Entry). horizon_put t.horizon ++ flat_map hold_put t.holds ++ list_put x ++ codes "END\n") c
-    ∙ put_is t
+pub opening_as_read : (t : Recording) (h : ℕ) (hs : List Hold) → h ≡ t.horizon → hs ≡ t.holds → horizon_put h ++ flat_map hold_put hs ≡ opening_put t
+opening_as_read t h hs a b =
+    ap (λ x. horizon_put x ++ flat_map hold_put hs) a ∙ ap (λ (x : List Hold). horizon_put t.horizon ++ flat_map hold_put x) b
+
+pub put_as_read : (t : Recording) (xs : List Entry) → xs ≡ t.list → opening_put t ++ list_put xs ++ codes "END\n" ≡ trace_text t
+put_as_read t xs c = ap (λ (x : List Entry). opening_put t ++ list_put x ++ codes "END\n") c ∙ put_is t
+
+pub clear_as_read : (t : Recording) (xs : List Entry) → ClearIsUnmarked → IsClear t.list → xs ≡ t.list
+    → opening_put t ++ clear_put xs ++ codes "END\n" ≡ trace_text t
+clear_as_read t xs law clear c =
+    ap (λ (x : List Entry). opening_put t ++ clear_put x ++ codes "END\n") c
+    ∙ ap (λ x. opening_put t ++ x ++ codes "END\n") (clear_is t.list law clear) ∙ put_is t

@@ -1,9 +1,9 @@
 //! Traces of the bus: what each terminal held, and what was sent up to a horizon, as a value and as a text.
 //!
 //! - [`Trace`] keeps in its type what every trace has: its order and its ranges.
-//! - [`write_trace`] writes the text of a trace in format 2 to a sink, and [`read_trace`] reads a text of either format back from a
-//!   source, of which it takes exactly the bytes of the trace text. A text that is none is refused at the byte at which its first
-//!   offending line begins, with the [`TraceReason`].
+//! - [`write_trace`] writes the text of a trace in format 2 to a sink, as does [`write_clear_trace`] where nothing overlaps, and
+//!   [`read_trace`] reads a text of either format back from a source, of which it takes exactly the bytes of the trace text. A text that
+//!   is none is refused at the byte at which its first offending line begins, with the [`TraceReason`].
 //!
 //! - [`Window`] is a stretch of a trace, of which alone something is shown.
 //! - [`TraceReader`] reads a trace text that comes in pieces, and tells with each piece whether it ends there or is refused.
@@ -49,4 +49,4 @@ pub use stage::Fed;
 pub use stop::{Stop, stop_behind};
 pub use trace::Trace;
 pub use window::Window;
-pub use writing::write_trace;
+pub use writing::{write_clear_trace, write_trace};

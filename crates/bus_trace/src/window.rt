@@ -7,8 +7,8 @@ ghost use Rattle.bus_trace.specs.Windows.{IsWindow};
 use bus_strings::limits::HORIZON_LIMIT;
 use std::marker::Model;
 
-/// A stretch of a trace, of which alone something is shown: from a moment to a later one, which is not shown itself. It goes no further than a trace
-/// may ([`HORIZON_LIMIT`]).
+/// A stretch of a trace, of which alone something is shown: from a moment to a later one, which is not shown itself. It goes no further
+/// than a trace may ([`HORIZON_LIMIT`]).
 #[derive(Debug, Drop)]
 pub struct Window {
     from: u64,

@@ -1,12 +1,12 @@
 //! Writing the text of a trace, in format 2.
 ghost use Rattle.std.specs.Prelude.{◌≡◌, ◌++◌, codes, length};
 ghost use Rattle.std.specs.List.{flat_map};
-ghost use Rattle.bus_strings.specs.Transmissions.{IsByMoment};
+ghost use Rattle.bus_strings.specs.Transmissions.{IsByMoment, IsClear};
 ghost use Rattle.bus_outer.specs.Sinks.{WritesText};
 ghost use Rattle.bus_outer.specs.Texts.{Adds};
 ghost use Rattle.bus_trace.specs.Traces.{trace_text};
 ghost use Rattle.bus_trace.specs.inside.Writing.{word_put, data_put, label_put, string_put, pair_put, hold_put, close_put, entry_put};
-ghost use Rattle.bus_trace.specs.inside.Writing.{head_put, horizon_put, list_put};
+ghost use Rattle.bus_trace.specs.inside.Writing.{head_put, horizon_put, opening_put, list_put, clear_put};
 
 use crate::format::TWO;
 use crate::hold::Hold;
@@ -119,6 +119,16 @@ fn put_list<K: Sink>(text: &mut TextBuffer, sink: &mut K, list: &[Transmission])
     }
 }
 
+/// The lines of all transmissions where none overlap, so that none is garbled.
+fn put_clear_list<K: Sink>(text: &mut TextBuffer, sink: &mut K, list: &[Transmission])
+    requires { IsClear list.now }
+    ensures { Adds K.held K.faults sink.old sink.new text.old text.new (clear_put list.now) }
+{
+    for x in list {
+        put_transmission(text, sink, x, false);
+    }
+}
+
 /// The first line.
 fn put_head<K: Sink>(text: &mut TextBuffer, sink: &mut K)
     ensures { Adds K.held K.faults sink.old sink.new text.old text.new head_put }
@@ -139,6 +149,14 @@ fn put_horizon<K: Sink>(text: &mut TextBuffer, sink: &mut K, horizon: u64)
     text.put_byte(sink, b'\n');
 }
 
+/// What stands before the transmissions.
+fn put_opening<K: Sink>(text: &mut TextBuffer, sink: &mut K, trace: &Trace)
+    ensures { Adds K.held K.faults sink.old sink.new text.old text.new (opening_put trace.now) }
+{
+    put_horizon(text, sink, trace.horizon());
+    put_holds(text, sink, trace.holds());
+}
+
 /// Writes the text of a trace in format 2, in pushes of a few kilobytes. It takes no memory.
 ///
 /// At `WriteFault` the sink has taken a front of the text, and its count of faults rose.
@@ -147,9 +165,23 @@ pub fn write_trace<K: Sink>(trace: &Trace, sink: &mut K) -> Result<(), WriteFaul
 {
     neighbours_tell();
     let mut text = TextBuffer::new();
-    put_horizon(&mut text, sink, trace.horizon());
-    put_holds(&mut text, sink, trace.holds());
+    put_opening(&mut text, sink, trace);
     put_list(&mut text, sink, trace.list());
+    text.put(sink, b"END\n");
+    text.finish(sink)
+}
+
+/// Writes what [`write_trace`] does, of a trace in which no two transmissions overlap: nobody has to be looked at for whom it garbles.
+///
+/// At `WriteFault` the sink has taken a front of the text, and its count of faults rose.
+pub fn write_clear_trace<K: Sink>(trace: &Trace, sink: &mut K) -> Result<(), WriteFault>
+    requires { IsClear trace.now.list }
+    ensures { WritesText K.held K.faults sink.old sink.new result (trace_text trace.now) }
+{
+    neighbours_tell();
+    let mut text = TextBuffer::new();
+    put_opening(&mut text, sink, trace);
+    put_clear_list(&mut text, sink, trace.list());
     text.put(sink, b"END\n");
     text.finish(sink)
 }

@@ -1,7 +1,7 @@
 -- By what a transmission of a list is looked up in the receive lines of a terminal.
 --   key    the label of its one wordstring, or a number that no label has
 --   span   between which indices the receive lines of a label stand
-use Rattle.std.specs.Prelude.{◌≡◌, ℕ, ◌<◌, ◌≤◌, Bool, ◌==◌, List, [], ◌∷◌, map, get_or, Some, length, slice_get, if◌then◌else◌}
+use Rattle.std.specs.Prelude.{◌≡◌, ◌≢◌, ℕ, ◌<◌, ◌≤◌, Bool, ◌==◌, List, [], ◌∷◌, map, get_or, Some, length, slice_get, if◌then◌else◌}
 use Rattle.std.specs.List.{filter, zip}
 use Rattle.bus_strings.specs.Messages.{Wordstring, Entry}
 use Rattle.bus_strings.specs.Transmissions.{marks}
@@ -47,6 +47,7 @@ of_label label takes = filter (λ line. line.label == label) takes
 --   within    and before the index behind the last
 --   ordered   of no label is the first index behind the last, nor is there one behind the lines
 --   bound
+--   unused    and 0 where no line has the label
 --   several   where there are several wordstrings, any line may take of them
 --   silent    none takes of what is garbled
 pub record AreSpans (takes : List TakeLine) (n : ℕ) (first behind : List ℕ) : Type 0 where
@@ -56,8 +57,14 @@ pub record AreSpans (takes : List TakeLine) (n : ℕ) (first behind : List ℕ) 
   pub within : (k : ℕ) (line : TakeLine) → k < n → slice_get takes k ≡ Some line → k < get_or behind line.label 0
   pub ordered : (label : ℕ) → label < several → get_or first label 0 ≤ get_or behind label 0
   pub bound : (label : ℕ) → label < several → get_or behind label 0 ≤ n
+  pub unused : (label : ℕ) → label < several → ((k : ℕ) (line : TakeLine) → k < n → slice_get takes k ≡ Some line → line.label ≢ label)
+      → get_or behind label 0 ≡ 0
   pub several_taken : 0 < get_or behind several 0
   pub silent_skipped : get_or behind silent 0 ≡ 0
+
+-- The spans of no lines.
+abbrev pub AreNoSpans : List ℕ → List ℕ → Type 0
+AreNoSpans first behind = AreSpans [] 0 first behind
 
 -- From one index up to another no line takes of what has the key.
 abbrev pub NoneTaken : List ℕ → List ℕ → ℕ → ℕ → Type 0

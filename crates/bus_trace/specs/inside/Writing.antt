@@ -1,5 +1,5 @@
 -- The text of a trace as it is put, field by field. That this is the text of the trace is `put_is` of `proofs/WriteTexts`.
-use Rattle.std.specs.Prelude.{ℕ, Bool, List, ◌++◌, codes, decimal}
+use Rattle.std.specs.Prelude.{ℕ, Bool, List, false, ◌++◌, codes, decimal}
 use Rattle.std.specs.List.{flat_map, zip}
 use Rattle.bus_words.specs.declared.word.Word.{Word}
 use Rattle.bus_words.specs.Words.{label_word, data_word}
@@ -55,10 +55,18 @@ head_put = codes "TRACE" ++ codes " " ++ format_text Two ++ codes "\n"
 abbrev pub horizon_put : ℕ → List ℕ
 horizon_put horizon = head_put ++ codes "HORIZON " ++ decimal horizon ++ codes "\n"
 
+-- The first lines, up to the transmissions.
+abbrev pub opening_put : Recording → List ℕ
+opening_put t = horizon_put t.horizon ++ flat_map hold_put t.holds
+
 -- The lines of all transmissions.
 abbrev pub list_put : List Entry → List ℕ
 list_put list = flat_map entry_put (zip list (marks list))
 
+-- The lines of transmissions of which none is garbled.
+abbrev pub clear_put : List Entry → List ℕ
+clear_put list = flat_map (λ x. entry_put (x, false)) list
+
 -- The text of a trace.
 abbrev pub trace_put : Recording → List ℕ
-trace_put t = horizon_put t.horizon ++ flat_map hold_put t.holds ++ list_put t.list ++ codes "END\n"
+trace_put t = opening_put t ++ list_put t.list ++ codes "END\n"

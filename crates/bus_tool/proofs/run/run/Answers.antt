@@ -11,6 +11,9 @@ use Rattle.bus_tool.specs.Texts.{IsMessagesAnswerText, run_text}
 use Rattle.bus_tool.proofs.AnswerLaws.{done_with, done_late}
 use Rattle.bus_tool.proofs.run.run.Goals as goal
 
+pub write_run-requires-clause-clear : goal.write_run-requires-clause-clear
+write_run-requires-clause-clear g c = c.in-Ok.ensures.gives.2.run.clear
+
 pub returns-in-Ok : goal.returns-in-Ok
 returns-in-Ok g c =
     subst (λ r. Ends (two_sources entire entire) (outcome_with done_with r) (IsMessagesAnswerText Run c.args.table.now c.args.hands.items)

@@ -6,9 +6,8 @@ use Rattle.bus_trace.proofs.writing.write_trace.Goals as goal
 
 pub returns : goal.returns
 returns g c =
-    let e = put_as_read c.args.trace.now c.horizon.result c.holds.result.now c.list.result.now c.horizon.ensures.value
-    c.holds.ensures.value c.list.ensures.value in
+    let e = put_as_read c.args.trace.now c.list.result.now c.list.ensures.value in
     ends_text g.K.Sink.held g.K.Sink.faults c.args.sink.now c.put.new.sink c.finish.new.sink c.new-text.result c.put.new.self
     c.finish.result _ c.finish.ensures
     (subst (λ (t : List ℕ). Adds g.K.Sink.held g.K.Sink.faults c.args.sink.now c.put.new.sink c.new-text.result c.put.new.self t) e
-    (c.put_horizon.ensures ▸ c.put_holds.ensures ▸ c.put_list.ensures ▸ c.put.ensures)) c.new-text.ensures
+    (c.put_opening.ensures ▸ c.put_list.ensures ▸ c.put.ensures)) c.new-text.ensures

@@ -1,5 +1,5 @@
 use Rattle.bus_filter.specs.inside.Keys.{AreSpans}
-use Rattle.bus_filter.proofs.spans.spans_of.Given as goal
+use Rattle.bus_filter.proofs.spans.note_all.Given as goal
 
 -- the lines so far are noted
 abbrev pub invariant-loop-index : goal.invariant-loop-index

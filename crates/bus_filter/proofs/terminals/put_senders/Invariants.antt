@@ -1,0 +1,13 @@
+use Rattle.std.proofs.Common.{take}
+use Rattle.std.specs.List.{flat_map}
+use Rattle.bus_outer.specs.Texts.{Adds}
+use Rattle.bus_filter.specs.inside.Keys.{AreNoSpans}
+use Rattle.bus_filter.specs.inside.Putting.{sender_put}
+use Rattle.bus_filter.proofs.terminals.put_senders.Given as goal
+
+abbrev pub invariant-loop-sender : goal.invariant-loop-sender
+invariant-loop-sender g l =
+    record {
+      spans : AreNoSpans l.spans.first l.spans.behind;
+      text : Adds g.K.Sink.held g.K.Sink.faults l.fn.sink l.sink l.fn.text l.text (flat_map (sender_put l.list) (take l.sender-index l.senders));
+    }
