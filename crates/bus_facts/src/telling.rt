@@ -1,11 +1,13 @@
 //! The facts of a text, as a line of JSON.
-ghost use Rattle.std.specs.Prelude.{◌≡◌, ◌≤◌, ◌++◌, Some, false, codes, IfOk, string_bytes};
+ghost use Rattle.std.specs.Prelude.{◌≡◌, ◌≢◌, ◌≤◌, ◌++◌, ℕ, List, Some, false, codes, IfOk, string_bytes};
 ghost use Rattle.serde_json.specs.Data.{depth};
 ghost use Rattle.serde_json.specs.Read.{read};
 ghost use Rattle.serde_json.specs.View.{view};
 ghost use Rattle.serde_json.specs.Written.{compact_text, has_float};
 ghost use Rattle.bus_table.specs.Gives.{Fails};
 ghost use Rattle.bus_table.specs.Reading.{answer_of};
+ghost use Rattle.bus_table.specs.Stops.{stop_of};
+ghost use Rattle.bus_table.specs.declared.error.TableError.TheVariants.{Memory};
 ghost use Rattle.bus_regime.specs.Verdicts.{is_accepted, verdict_of};
 ghost use Rattle.bus_facts.specs.Facts as told;
 ghost use Rattle.bus_facts.specs.inside.Telling.{Tells};
@@ -13,7 +15,7 @@ ghost use Rattle.bus_facts.specs.inside.Telling.{Tells};
 use crate::table::table_value;
 use crate::wrong::{text_value, whole_value};
 use bus_regime::verdict;
-use bus_table::{Table, TableError, find_stop, read_table};
+use bus_table::{Table, TableError, Unread, read_or_stop};
 use serde_json::{Value, json};
 use std::alloc::{AllocError, Global};
 
@@ -48,15 +50,15 @@ fn error_value(alloc: Global, error: Value) -> Result<Value, AllocError>
     })
 }
 
-/// Which error a text has that gives no valid table for this reason.
-fn refusal_value(alloc: Global, text: &[u8], error: TableError) -> Result<Value, AllocError>
-    requires { Fails error (answer_of text.now) }
-    ensures value { IfOk result (λ value. view value ≡ told.facts_value text.now) }
-    ensures failed { IfOk result (λ _. told.is_accepting (answer_of text.now) ≡ false) }
+/// What is told of a text that gives no valid table, whose reading came to this.
+fn refusal_value(alloc: Global, unread: Unread) -> Result<Value, AllocError>
+    ensures value { IfOk result (λ value. (text : List ℕ) → Fails unread.error (answer_of text)
+        → (unread.error ≢ Memory → unread.stop ≡ stop_of text) → view value ≡ told.facts_value text) }
+    ensures failed { IfOk result (λ _. (text : List ℕ) → Fails unread.error (answer_of text) → told.is_accepting (answer_of text) ≡ false) }
 {
+    let Unread { error, stop } = unread;
     match error {
         TableError::Text { line, reason } => {
-            let stop = find_stop(alloc, text)?;
             let refusal = text_value(alloc, line, reason, &stop)?;
             error_value(alloc, refusal)
         }
@@ -92,26 +94,20 @@ fn table_facts(alloc: Global, table: &Table) -> Result<Facts, AllocError>
     })
 }
 
-/// The facts of a text that gives no valid table for this reason.
-fn error_facts(alloc: Global, text: &[u8], error: TableError) -> Result<Facts, AllocError>
-    requires { Fails error (answer_of text.now) }
-    ensures { IfOk result (Tells (told.facts_value text.now) (told.is_accepting (answer_of text.now))) }
-{
-    let value = refusal_value(alloc, text, error)?;
-    Ok(Facts {
-        line: line_of(alloc, &value)?,
-        accepted: false,
-    })
-}
-
 /// The facts of a text, whether it is one of a table or not. Fails only where memory runs out.
 pub fn facts_of(alloc: Global, text: &[u8]) -> Result<Facts, AllocError>
     ensures line { IfOk result (λ facts. string_bytes facts.line ≡ told.facts_text text.now) }
     ensures reads { IfOk result (λ _. read (compact_text (told.facts_value text.now)) ≡ Some (told.facts_value text.now)) }
     ensures accepted { IfOk result (λ facts. facts.accepted ≡ told.is_accepting (answer_of text.now)) }
 {
-    match read_table(alloc, text) {
+    match read_or_stop(alloc, text) {
         Ok(table) => table_facts(alloc, &table),
-        Err(error) => error_facts(alloc, text, error),
+        Err(unread) => {
+            let value = refusal_value(alloc, unread)?;
+            Ok(Facts {
+                line: line_of(alloc, &value)?,
+                accepted: false,
+            })
+        }
     }
 }

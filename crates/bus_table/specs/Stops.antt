@@ -29,6 +29,10 @@ stop_in draft word = record {
   word = word;
 }
 
+-- The same at a line of another keyword.
+abbrev pub with_word : Stop → Option Keyword → Stop
+with_word stop word = record { stage = stop.stage; sends = stop.sends; takes = stop.takes; mode = stop.mode; word = word }
+
 -- At this line.
 abbrev pub stop_at : Draft → Entry → Stop
 stop_at draft entry = stop_in draft (keyword_of entry.fields)

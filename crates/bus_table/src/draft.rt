@@ -20,7 +20,7 @@ use crate::stage::Stage;
 use crate::stop::Stop;
 use crate::table::Table;
 use bus_strings::limits::MOST_STRINGS;
-use bus_text::{Line, LineFault, Reason, fields, take_fields};
+use bus_text::{Line, LineFault, Reason, take_fields};
 use std::alloc::{AllocError, Global};
 use std::marker::Model;
 
@@ -299,14 +299,6 @@ impl Draft {
             self.mode,
             word,
         )
-    }
-
-    /// Where the reading stops, if this line is refused.
-    pub fn stop_before(&self, alloc: Global, line: Line<'_>) -> Result<Stop, AllocError>
-        ensures { IfOk result (λ stop. stop ≡ stop_at self.now (entry line.entry)) }
-    {
-        let fields = fields(alloc, line.bytes)?;
-        Ok(self.stop(keyword_of(&fields)))
     }
 
     /// Whether the text may end here.

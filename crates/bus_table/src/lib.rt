@@ -2,8 +2,8 @@
 //!
 //! - [`Table`] with its [`Sender`]s, its [`Listener`]s and their [`SendLine`]s and [`TakeLine`]s keeps that it is
 //!   valid: every number is in its range, and none of the [`WholeReason`]s applies.
-//! - [`read_table`] reads a text, and [`write_table`] writes the canonical one. [`find_stop`] tells where a reading stops, and what
-//!   may stand there.
+//! - [`read_table`] reads a text, and [`write_table`] writes the canonical one. [`read_or_stop`] tells where a reading stops too, and a
+//!   [`Stop`] what may stand there.
 //! - [`shortest`] and [`longest`] tell the lengths of a sender's messages, [`place`] who speaks after whom, [`greatest_gap`] the greatest
 //!   terminal gap.
 //! - [`with_offsets`] gives the senders of a periodic table other offsets, and [`as_periodic`] makes a periodic table of an aperiodic one.
@@ -57,10 +57,10 @@ pub use listener::Listener;
 pub use mode::Mode;
 pub use offsets::with_offsets;
 pub use periodic::as_periodic;
-pub use reading::read_table;
+pub use reading::{Unread, read_or_stop, read_table};
 pub use saying::{put_fit_error, put_numbered, put_whole};
 pub use sender::Sender;
-pub use stop::{Stop, find_stop};
+pub use stop::Stop;
 pub use table::Table;
 pub use turns::{MOST_SENDERS, place, turn_at, turn_places};
 pub use writing::{put_mode, put_table, write_table};

@@ -1,15 +1,10 @@
 //! Where the reading of a table text stops, and what may stand there.
-ghost use Rattle.std.specs.Prelude.{◌≡◌, ◌≢◌, IfOk};
-ghost use Rattle.bus_table.specs.declared.error.TableError.TheVariants.{Memory};
-ghost use Rattle.bus_table.specs.Stops.{stop_of};
+ghost use Rattle.std.specs.Prelude.{◌≡◌};
 
-use crate::draft::{Draft, may_follow};
-use crate::error::TableError;
+use crate::draft::may_follow;
 use crate::keyword::Keyword;
 use crate::mode::Mode;
 use crate::stage::Stage;
-use bus_text::Lines;
-use std::alloc::{AllocError, Global};
 use std::marker::Model;
 
 /// Where the reading of a table text stopped: before the first line that is refused, or at the end of the text.
@@ -51,6 +46,13 @@ impl Stop {
             mode,
             word,
         }
+    }
+
+    /// The same at a line of this keyword.
+    pub(crate) fn at(self, word: Option<Keyword>) -> Stop
+        ensures { result ≡ stops.with_word self word }
+    {
+        Stop { word, ..self }
     }
 
     /// The mode of the table; aperiodic before its line.
@@ -101,35 +103,4 @@ impl Stop {
     {
         self.stage.may_end()
     }
-}
-
-/// The stop at a line that wasn't taken.
-fn at_refusal(error: TableError, here: Stop) -> Result<Stop, AllocError>
-    ensures at { IfOk result (λ stop. stop ≡ here) }
-    ensures refused { IfOk result (λ stop. error ≢ Memory) }
-{
-    match error {
-        TableError::Memory => Err(AllocError),
-        TableError::Text { .. } | TableError::Whole(_) => Ok(here),
-    }
-}
-
-/// Where the reading of a text stops, whatever the text is.
-///
-/// # Errors
-///
-/// Want of memory.
-pub fn find_stop(alloc: Global, text: &[u8]) -> Result<Stop, AllocError>
-    ensures { IfOk result (λ stop. stop ≡ stop_of text.now) }
-{
-    let mut draft = Draft::new(alloc);
-    let mut fields = Vec::new(alloc);
-    for line in Lines::new(text) {
-        let here = draft.stop_before(alloc, line)?;
-        match draft.take_line(alloc, &mut fields, line) {
-            Ok(()) => {}
-            Err(error) => return at_refusal(error, here),
-        }
-    }
-    Ok(draft.stop(None))
 }

@@ -1,7 +1,9 @@
 //! `explain` of a table and another text: what is wrong with messages, a cable or a trace, for an accepted table.
-ghost use Rattle.std.specs.Prelude.{◌≡◌, ◌≤◌, ℕ, List, length, IsTrue, IfOk};
+ghost use Rattle.std.specs.Prelude.{◌≡◌, ◌≢◌, ◌≤◌, ℕ, List, length, IsTrue, IfOk};
 ghost use Rattle.bus_table.specs.Gives.{Fails};
 ghost use Rattle.bus_table.specs.Reading.{answer_of};
+ghost use Rattle.bus_table.specs.Stops.{stop_of};
+ghost use Rattle.bus_table.specs.declared.error.TableError.TheVariants.{Memory};
 ghost use Rattle.bus_trace.specs.Limits.{trace_limit};
 ghost use Rattle.bus_regime.specs.Verdicts.{verdict_of, is_accepted};
 ghost use Rattle.bus_diagnosis.specs.Diagnoses.{diagnosis_of};
@@ -18,14 +20,14 @@ ghost use Rattle.bus_tool.specs.Diagnosing.{beside, beside_answer, beside_due, b
 ghost use Rattle.bus_tool.specs.Forms as form;
 ghost use Rattle.bus_tool.specs.Forms.{entire_beside};
 
-use crate::explain::{explain_table, explain_unread};
+use crate::explain::{explain_line, explain_table};
 use crate::refusal::{Outcome, ToolRefusal};
 use bus_command::{TEXT_LIMIT, after_writing, take_text};
 use bus_diagnosis::{Diagnosis, write_diagnosis};
 use bus_explain::write_whole;
 use bus_outer::{Sink, Source};
 use bus_regime::verdict;
-use bus_table::{Table, TableError, read_table};
+use bus_table::{Table, TableError, Unread, read_or_stop};
 use bus_trace::limits::TRACE_LIMIT;
 use std::alloc::Global;
 
@@ -74,14 +76,14 @@ fn diagnose_table<K: Sink>(alloc: Global, table: &Table, text: &[u8], out: &mut 
     }
 }
 
-/// Writes what is said of a text that gives no table for this reason, whatever stands beside it.
-fn explain_beside<K: Sink>(alloc: Global, table: &[u8], error: TableError, out: &mut K) -> Outcome
-    requires { Fails error (answer_of table.now) }
-    ensures { (text : List ℕ) → let texts = beside table.now text in
-        EndsBeside ⟦<K as Sink>⟧ (beside_answer texts) (beside_told texts) out.old out.new result }
+/// Writes what is said of a text that gives no table, whose reading came to this, whatever stands beside it.
+fn explain_beside<K: Sink>(unread: Unread, out: &mut K) -> Outcome
+    ensures { (table text : List ℕ) → Fails unread.error (answer_of table) → (unread.error ≢ Memory → unread.stop ≡ stop_of table)
+        → let texts = beside table text in EndsBeside ⟦<K as Sink>⟧ (beside_answer texts) (beside_told texts) out.old out.new result }
 {
+    let Unread { error, stop } = unread;
     match error {
-        TableError::Text { line, reason } => explain_unread(alloc, table, line, reason, out),
+        TableError::Text { line, reason } => explain_line(line, reason, &stop, out),
         TableError::Whole(reason) => after_writing(write_whole(reason, out), Outcome::Answered),
         TableError::Memory => Outcome::NoMemory,
     }
@@ -93,9 +95,9 @@ fn diagnose_texts<K: Sink>(alloc: Global, table: &[u8], text: &[u8], out: &mut K
     ensures { let texts = beside table.now text.now in
         EndsBeside ⟦<K as Sink>⟧ (beside_answer texts) (beside_told texts) out.old out.new result }
 {
-    match read_table(alloc, table) {
+    match read_or_stop(alloc, table) {
         Ok(read) => diagnose_table(alloc, &read, text, out),
-        Err(error) => explain_beside(alloc, table, error, out),
+        Err(unread) => explain_beside(unread, out),
     }
 }
 

@@ -1,17 +1,13 @@
-use Rattle.std.proofs.Common.{◌≡◌, ◌++◌, codes, Some, sym, ap, ◌∙◌, subst}
-use Rattle.std.proofs.lemmas.Result.{IfOk-weaker}
-use Rattle.serde_json.specs.Read.{read}
-use Rattle.serde_json.specs.Written.{compact_text}
-use Rattle.bus_facts.specs.Facts.{answer_value}
+use Rattle.std.proofs.Common.{arith, ap, ◌∙◌}
+use Rattle.serde_json.specs.Data.{depth}
+use Rattle.serde_json.specs.Written.{has_float}
+use Rattle.bus_facts.proofs.Plain.{plain_facts}
 use Rattle.bus_facts.proofs.telling.facts_of.Goals as goal
 
-pub returns-in-Ok-clause-line : goal.returns-in-Ok-clause-line
-returns-in-Ok-clause-line c =
-    IfOk-weaker c.table_facts.result _ _
-    (λ facts h. h.line ∙ ap (λ a. compact_text (answer_value a c.args.text.now) ++ codes "\n") (sym c.in-Ok.ensures.exact)) c.table_facts.ensures
+pub line_of-requires-clause-whole : goal.line_of-requires-clause-whole
+line_of-requires-clause-whole c =
+    ap has_float (c.in_ok-value-in-Err.ensures.value c.args.text.now c.in-Err.ensures.error c.in-Err.ensures.stop) ∙ (plain_facts c.args.text.now).whole
 
-pub returns-in-Ok-clause-reads : goal.returns-in-Ok-clause-reads
-returns-in-Ok-clause-reads c =
-    IfOk-weaker c.table_facts.result _ _
-    (λ facts h. subst (λ a. read (compact_text (answer_value a c.args.text.now)) ≡ Some (answer_value a c.args.text.now)) (sym c.in-Ok.ensures.exact) h.reads)
-    c.table_facts.ensures
+pub line_of-requires-clause-deep : goal.line_of-requires-clause-deep
+line_of-requires-clause-deep c =
+    omega (arith, ap depth (c.in_ok-value-in-Err.ensures.value c.args.text.now c.in-Err.ensures.error c.in-Err.ensures.stop), (plain_facts c.args.text.now).deep)

@@ -1,12 +1,8 @@
-use Rattle.std.proofs.Common.{sym, ap, ◌∙◌, Err, ℕ}
 use Rattle.std.proofs.lemmas.Result.{err_from_is_err_and}
-use Rattle.bus_text.specs.declared.reason.Reason.TheVariants.{Ended}
 use Rattle.bus_text.specs.Entries.{entry}
-use Rattle.bus_text.specs.Lines.{entries_of}
-use Rattle.bus_table.specs.declared.error.TableError.TheVariants.{Text}
-use Rattle.bus_table.proofs.StepLemmas.{steps_go, steps_end, step_fails, too_early, answers_judged}
-use Rattle.bus_table.proofs.TextLemmas.{steps_whole}
+use Rattle.bus_table.proofs.StepLemmas.{steps_go, steps_end, step_fails}
 use Rattle.bus_table.proofs.reading.read.Goals as goal
+use Rattle.std.proofs.Common.{sym}
 
 pub loop-line-preserved : goal.loop-line-preserved
 loop-line-preserved c = steps_go c.loop-line.draft c.take_line.new.self c.loop-line.line-iterator c.next.new.self (entry c.in-Some.line) _ c.in-Some.ensures.steps c.in_ok-take_line.ensures c.loop-line.invariant
@@ -16,17 +12,5 @@ returns-in_err-take_line c =
     let p = err_from_is_err_and c.from_residual.result c.from_residual.ensures.1 in
     rw (p.1, p.2) (step_fails c.in_err-take_line.field-0.0 c.loop-line.draft c.loop-line.line-iterator c.next.new.self (entry c.in-Some.line) c.args.text.now c.in-Some.ensures.steps c.in_err-take_line.ensures c.loop-line.invariant)
 
-pub returns-then-not-may_end : goal.returns-then-not-may_end
-returns-then-not-may_end c =
-    let last = steps_end c.loop-line.draft c.loop-line.line-iterator _ c.in-None.ensures.steps.0 c.loop-line.invariant in
-    too_early c.args.text.now c.loop-line.draft last (sym c.if-not-may_end.ensures) ∙ ap (λ (n : ℕ). Err (Text n Ended)) (sym c.line_after.ensures)
-
-pub table-requires : goal.table-requires
-table-requires c =
-    let last = steps_end c.loop-line.draft c.loop-line.line-iterator _ c.in-None.ensures.steps.0 c.loop-line.invariant in
-    (steps_whole (entries_of c.args.text.now) c.loop-line.draft last (sym c.if-not-may_end.ensures)).ranges
-
-pub returns : goal.returns
-returns c =
-    let last = steps_end c.loop-line.draft c.loop-line.line-iterator _ c.in-None.ensures.steps.0 c.loop-line.invariant in
-    answers_judged c.args.text.now c.loop-line.draft c.table.result last (sym c.if-not-may_end.ensures) c.table.ensures
+pub ended-requires : goal.ended-requires
+ended-requires c = steps_end c.loop-line.draft c.loop-line.line-iterator _ c.in-None.ensures.steps.0 c.loop-line.invariant

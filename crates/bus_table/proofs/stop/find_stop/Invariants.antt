@@ -1,8 +1,0 @@
-use Rattle.std.proofs.Common.{◌≡◌}
-use Rattle.bus_text.specs.Lines.{entries_of}
-use Rattle.bus_table.specs.Drafts.{start}
-use Rattle.bus_table.specs.Stops.{stops}
-use Rattle.bus_table.proofs.stop.find_stop.Given as goal
-
-abbrev pub invariant-loop-line : goal.invariant-loop-line
-invariant-loop-line l = stops l.draft l.line-iterator ≡ stops start (entries_of l.text)
