@@ -1,4 +1,4 @@
--- The lemmas of this crate.
+-- The lemmas of this crate; those that a crate above may cite are public.
 mod OrderLemmas
 mod AcceptLemmas
 mod FallLemmas
@@ -6,3 +6,4 @@ mod ColumnTexts
 mod FigureLaws
 mod GapTimes
 mod RowLengths
+pub mod CutLemmas

@@ -6,8 +6,7 @@ use Rattle.bus_table.specs.declared.mode.Mode.TheVariants.{Aperiodic, Periodic}
 use Rattle.bus_table.specs.Tables.{Table}
 use Rattle.bus_regime.specs.Verdicts.{verdict_of}
 use Rattle.bus_regime.specs.declared.table_verdict.TableVerdict.TheVariants.{Accept}
-use Rattle.bus_strings.specs.Shares.{share_text}
-use Rattle.bus_explain.specs.Figures.{load, spare}
+use Rattle.bus_explain.specs.Figures.{load, load_words, spare}
 use Rattle.bus_advice.specs.declared.advice.Advice.{Advice}
 use Rattle.bus_explain.specs.Senders.{senders_text}
 use Rattle.bus_explain.specs.Starts.{start_text}
@@ -60,7 +59,7 @@ spare_line mode spare = codes "The spare is " ++ time_text spare ++ spare_meanin
 -- How much of the bus is used.
 abbrev pub load_line : ℕ → List ℕ
 load_line load =
-    codes "The load is " ++ share_text load
+    codes "The load is " ++ load_words load
     ++ codes ": so much of the longest cycle is messages, each as long as it may be; the rest is gaps.\n"
 
 -- What a tolerance means. Its second line tells that there is no greater one, in the words of the laws by which that is so: more of what

@@ -37,7 +37,8 @@ plan_line ti =
 -- `PERIODIC n`
 abbrev pub periodic_line : ℕ → List ℕ
 periodic_line ti =
-    codes "PERIODIC " ++ decimal ti ++ codes ": make the table periodic, with the offsets of a plan and a transmit interval of " ++ time_text ti
+    codes "PERIODIC " ++ decimal ti ++ codes ": make the table periodic, with the offsets of a plan and a transmit interval of "
+    ++ time_text ti
     ++ codes ", the least from the present one on for which there are offsets.\n"
 
 -- `START n`

@@ -1,12 +1,12 @@
 -- The figures of an accepted table that its verdict doesn't tell.
 --   least, most   the verdict's: the shortest and the longest cycle, which in periodic mode are both the transmit interval
-use Rattle.std.specs.Prelude.{ℕ, ◌-◌}
+use Rattle.std.specs.Prelude.{ℕ, ◌-◌, ◌==◌, List, codes, if◌then◌else◌}
 use Rattle.std.specs.List.{sum_by}
 use Rattle.bus_table.specs.declared.mode.Mode.{Mode}
 use Rattle.bus_table.specs.declared.mode.Mode.TheVariants.{Aperiodic, Periodic}
 use Rattle.bus_table.specs.Lengths.{longest}
 use Rattle.bus_table.specs.Tables.{Table}
-use Rattle.bus_strings.specs.Shares.{tenths}
+use Rattle.bus_strings.specs.Shares.{share_text, tenths}
 use Rattle.bus_regime.specs.Gaps.{Gap}
 use Rattle.bus_plan.specs.Plans.{least_interval}
 
@@ -17,6 +17,10 @@ longest_bits table = sum_by longest table.senders
 -- The load: the bits of all longest messages as a share of the longest cycle, in tenths of a percent.
 abbrev pub load : Table → ℕ → ℕ
 load table most = tenths (longest_bits table) most
+
+-- A load in words; of one that rounds to none, since in an accepted table somebody sends, that it is less than a tenth.
+abbrev pub load_words : ℕ → List ℕ
+load_words load = if load == 0 then codes "less than 0.1 %" else share_text load
 
 -- The spare of an accepted table of this mode: by so much its transmit interval could rise, or fall, were its offsets planned anew.
 abbrev pub spare_in : Mode → Table → ℕ → ℕ

@@ -43,8 +43,8 @@ SpareIsFall =
     → CanFall table (spare table least)
 
 -- ---- the load
--- The bit times of a longest cycle of a table of this mode in which nobody sends: a synchronization gap and the terminal gap of each sender,
--- or the gaps before the senders.
+-- The bit times of a longest cycle of a table of this mode in which nobody sends: a synchronization gap and the terminal gap of each
+-- sender, or the gaps before the senders.
 abbrev pub idle_in : Mode → Table → ℕ
 idle_in Aperiodic table = table.sg + sum_by (λ sender. sender.tg) table.senders
 idle_in Periodic table = sum_by gap_bits (gaps table)

@@ -5,6 +5,7 @@ pub mod Columns
 pub mod Senders
 pub mod Starts
 pub mod Accepted
+pub mod Beyond
 pub mod Refused
 pub mod Advised
 pub mod Wholes

@@ -51,4 +51,5 @@ may_stand_text stop None = any_text stop
 -- All that is said of a refused text.
 abbrev pub unread_text : (line : ℕ) → Reason → Stop → List ℕ
 unread_text line reason stop =
-    codes "Line " ++ decimal line ++ codes " of the table text is refused: " ++ reason_text stop reason ++ may_stand_text stop (fitting stop)
+    codes "Line " ++ decimal line ++ codes " of the table text is refused: " ++ reason_text stop reason
+    ++ may_stand_text stop (fitting stop)

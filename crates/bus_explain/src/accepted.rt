@@ -4,13 +4,12 @@ ghost use Rattle.bus_outer.specs.Texts.{Adds};
 ghost use Rattle.bus_table.specs.declared.mode.Mode.TheVariants.{Aperiodic, Periodic};
 ghost use Rattle.bus_explain.specs.Accepted as accepted;
 
-use crate::figures::{load, spare};
+use crate::figures::{load, put_load, spare};
 use crate::senders::put_senders;
 use crate::starts::put_start;
 use crate::times::put_time;
 use bus_advice::Advice;
 use bus_outer::{Sink, TextBuffer, WriteFault};
-use bus_strings::put_share;
 use bus_table::laws::table_is_valid;
 use bus_table::ranges::{LEAST_TI, MOST_TI};
 use bus_table::{Mode, Table};
@@ -95,11 +94,11 @@ fn put_fall<K: Sink>(text: &mut TextBuffer, sink: &mut K)
 }
 
 /// Puts how much of the bus is used.
-fn put_load<K: Sink>(text: &mut TextBuffer, sink: &mut K, load: u128)
+fn put_load_line<K: Sink>(text: &mut TextBuffer, sink: &mut K, load: u128)
     ensures { Adds K.held K.faults sink.old sink.new text.old text.new (accepted.load_line load) }
 {
     text.put(sink, b"The load is ");
-    put_share(text, sink, load);
+    put_load(text, sink, load);
     text.put(
         sink,
         b": so much of the longest cycle is messages, each as long as it may be; the rest is gaps.\n",
@@ -195,7 +194,7 @@ fn put_before<K: Sink>(text: &mut TextBuffer, sink: &mut K, table: &Table, least
     );
     put_cycles(text, sink, mode, least, most);
     put_spare(text, sink, mode, spare);
-    put_load(text, sink, load);
+    put_load_line(text, sink, load);
 }
 
 /// Puts what is said of it behind them.

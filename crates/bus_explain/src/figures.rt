@@ -1,11 +1,13 @@
 //! The figures of an accepted table that its verdict doesn't tell.
 ghost use Rattle.std.specs.Prelude.{◌≡◌, ◌<◌, ◌^◌};
+ghost use Rattle.bus_outer.specs.Texts.{Adds};
 ghost use Rattle.bus_explain.specs.Accepted.{HasLeast};
 ghost use Rattle.bus_explain.specs.Figures as figures;
 
+use bus_outer::{Sink, TextBuffer};
 use bus_plan::least_interval;
 use bus_regime::TurnGap;
-use bus_strings::tenths;
+use bus_strings::{put_share, tenths};
 use bus_table::{Mode, Table, longest};
 
 /// The bits of one message of each sender, each as long as it may be: at most 128 times 159,460.
@@ -27,6 +29,17 @@ pub fn load(table: &Table, most: u64) -> u128
     ensures { result ≡ figures.load table.now most }
 {
     tenths(u128::from(longest_bits(table)), most)
+}
+
+/// Puts a load, given in tenths of a percent; of one that rounds to none, that it is less than a tenth.
+pub fn put_load<K: Sink>(text: &mut TextBuffer, sink: &mut K, load: u128)
+    ensures { Adds K.held K.faults sink.old sink.new text.old text.new (figures.load_words load) }
+{
+    if load == 0 {
+        text.put(sink, b"less than 0.1 %");
+    } else {
+        put_share(text, sink, load);
+    }
 }
 
 /// The spare of an accepted table whose shortest cycle takes `least` bit times: by so many bit times its transmit interval could rise, or

@@ -8,7 +8,6 @@ pub mod EntryLemmas
 pub mod EscapeLemmas
 pub mod ReportTexts
 pub mod DrillLemmas
-pub mod CutLemmas
 pub mod AnswerLaws
 pub mod TraceAnswers
 pub mod GroupLemmas

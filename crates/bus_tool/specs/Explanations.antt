@@ -1,46 +1,27 @@
 -- What `explain` writes of a text: what its table's verdict means, or why it stands for no valid table, and what to change.
-use Rattle.std.specs.Prelude.{ℕ, List, [], ◌++◌, codes, Option, Some, None, Result, Ok, Err}
+use Rattle.std.specs.Prelude.{ℕ, List, [], ◌++◌, Result, Ok, Err}
 use Rattle.bus_table.specs.declared.error.TableError.{TableError}
 use Rattle.bus_table.specs.declared.error.TableError.TheVariants.{Text, Whole, Memory}
 use Rattle.bus_table.specs.Reading.{answer_of}
 use Rattle.bus_table.specs.Stops.{stop_of}
 use Rattle.bus_table.specs.Tables.{Table}
-use Rattle.bus_table.specs.declared.mode.Mode.{Mode}
-use Rattle.bus_table.specs.declared.mode.Mode.TheVariants.{Aperiodic, Periodic}
 use Rattle.bus_regime.specs.Verdicts.{verdict_of}
 use Rattle.bus_regime.specs.declared.table_verdict.TableVerdict.{TableVerdict}
 use Rattle.bus_regime.specs.declared.table_verdict.TableVerdict.TheVariants.{Accept, ShortCycle, SmallGap, NoSync}
 use Rattle.bus_advice.specs.Advices.{advices_of, periodic_table}
 use Rattle.bus_explain.specs.Accepted.{accepted_text}
+use Rattle.bus_explain.specs.Beyond.{beyond_text}
 use Rattle.bus_cable_plan.specs.Answers.{most_borne_of}
 use Rattle.bus_explain.specs.Refused.{refused_text}
-use Rattle.bus_explain.specs.Times.{time_text}
 use Rattle.bus_explain.specs.Unread.{unread_text}
 use Rattle.bus_explain.specs.Wholes.{whole_text}
-use Rattle.bus_margins_periodic.specs.Sentences.{drifting_text}
 use Rattle.bus_tool.specs.Tolerances.{tolerance_of}
-
--- That this is the greatest delay that any offsets of a table bear.
-abbrev pub most_line : ℕ → List ℕ
-most_line most =
-    codes "The greatest delay that any offsets bear at this interval is " ++ time_text most
-    ++ codes ": the word best behind plan and the file chooses such offsets.\n"
-
--- The same where it is known.
-abbrev pub offsets_line : Option ℕ → List ℕ
-offsets_line None = []
-offsets_line (Some most) = most_line most
-
--- What is written of an accepted table of this mode where clocks are off: of an aperiodic one it is told whether it starts itself.
-abbrev pub drifting_in : Mode → Table → List ℕ
-drifting_in Aperiodic table = []
-drifting_in Periodic table = drifting_text table
 
 -- What is written of a table that the verdict accepts with these numbers, with the advices on it.
 abbrev pub accepted_as : Table → (least most : ℕ) → List ℕ
 accepted_as table least most =
     accepted_text table least most (tolerance_of table) (advices_of table)
-    ++ (offsets_line (most_borne_of table) ++ drifting_in table.mode table)
+    ++ beyond_text (most_borne_of table) table
 
 -- What is written of a table that this verdict refuses: why, with the advices on it, and the table that one of them plans.
 abbrev pub refused_as : TableVerdict → Table → List ℕ

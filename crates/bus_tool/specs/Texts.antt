@@ -34,7 +34,8 @@ use Rattle.bus_tool.specs.Forms.{Form, OnTable, OnMessages, OnTrace, Unwave, Dri
 use Rattle.bus_tool.specs.Forms.{TableCommand, Check, Tolerance, Tidy, Report, Witness, Plan, PlanFor, Margins}
 use Rattle.bus_tool.specs.Forms.{MessagesCommand, Observe, Run, Drop, Schedule, TraceCommand, Receive, Audit, Vote, Wave, Diagnose}
 use Rattle.bus_tool.specs.Forms.{form_of, table_mode, messages_mode}
-use Rattle.bus_tool.specs.Due.{table_for, cable_plan_of, unwave_due, table_answer, inputs_answer, traced_answer, unwave_answer, explain_answer}
+use Rattle.bus_tool.specs.Due.{table_for, cable_plan_of, unwave_due, table_answer, inputs_answer, traced_answer, unwave_answer}
+use Rattle.bus_tool.specs.Due.{explain_answer}
 use Rattle.bus_tool.specs.Due.{CableInputs, cable_hands, cable_answer, cable_due}
 use Rattle.bus_tool.specs.Drills.{drill_line}
 use Rattle.bus_tool.specs.Explanations.{explanation}

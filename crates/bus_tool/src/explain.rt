@@ -1,30 +1,31 @@
 //! `explain`: what the verdict on a table means, or why a text gives no valid table, and what to change.
-ghost use Rattle.std.specs.Prelude.{◌≡◌, ◌++◌, false};
+ghost use Rattle.std.specs.Prelude.{◌≡◌, ◌≢◌, ◌++◌, ℕ, List, false};
 ghost use Rattle.bus_outer.specs.Sinks.{WritesText};
 ghost use Rattle.bus_table.specs.Gives.{Fails};
 ghost use Rattle.bus_table.specs.Reading.{answer_of};
 ghost use Rattle.bus_table.specs.Stops.{stop_of};
+ghost use Rattle.bus_table.specs.declared.error.TableError.TheVariants.{Memory};
 ghost use Rattle.bus_regime.specs.Verdicts.{is_accepted, verdict_of};
 ghost use Rattle.bus_advice.specs.Advices.{advices_of};
 ghost use Rattle.bus_cable_plan.specs.Answers.{most_borne_of};
 ghost use Rattle.bus_command.specs.declared.outcome.Outcome.TheVariants.{Answered, Done};
 ghost use Rattle.bus_explain.specs.Accepted.{IsAcceptedWith, accepted_text};
+ghost use Rattle.bus_explain.specs.Beyond.{beyond_text};
 ghost use Rattle.bus_explain.specs.Unread.{unread_text};
 ghost use Rattle.bus_tool.specs.inside.Acting.{DoesFirst, EndsExplaining};
 ghost use Rattle.bus_tool.specs.Due.{explain_answer, verdict_outcome};
-ghost use Rattle.bus_tool.specs.Explanations.{accepted_as, drifting_in, explanation, offsets_line, refused_as, table_explained};
+ghost use Rattle.bus_tool.specs.Explanations.{accepted_as, explanation, refused_as, table_explained};
 ghost use Rattle.bus_tool.specs.Forms.{Explain};
 
-use crate::beyond::write_beyond;
 use crate::refusal::{Outcome, ToolRefusal};
 use crate::tolerance::tolerance_of;
 use bus_advice::{Advice, advices, periodic_table};
 use bus_cable_plan::most_borne;
 use bus_command::{TEXT_LIMIT, after_writing, take_text};
-use bus_explain::{write_accepted, write_refused, write_unread, write_whole};
+use bus_explain::{write_accepted, write_beyond, write_refused, write_unread, write_whole};
 use bus_outer::{Sink, Source, WriteFault};
 use bus_regime::{TableVerdict, verdict};
-use bus_table::{Table, TableError, find_stop, read_table};
+use bus_table::{Stop, Table, TableError, Unread, read_or_stop};
 use bus_text::Reason;
 use std::alloc::Global;
 
@@ -46,7 +47,7 @@ fn write_told<K: Sink>(
 ) -> Result<(), WriteFault>
     requires { IsAcceptedWith table.now least most }
     ensures { WritesText K.held K.faults out.old out.new result (accepted_text table.now least most bears.tolerance advices.now
-        ++ (offsets_line bears.offsets ++ drifting_in table.now.mode table.now)) }
+        ++ beyond_text bears.offsets table.now) }
 {
     write_accepted(table, least, most, bears.tolerance, advices, out)?;
     write_beyond(table, bears.offsets, out)
@@ -173,29 +174,21 @@ pub(crate) fn explain_table<K: Sink>(alloc: Global, table: &Table, out: &mut K) 
     }
 }
 
-/// Writes what is said of a text of which this line is refused.
-pub(crate) fn explain_unread<K: Sink>(
-    alloc: Global,
-    text: &[u8],
-    line: u64,
-    reason: Reason,
-    out: &mut K,
-) -> Outcome
-    ensures { EndsExplaining ⟦<K as Sink>⟧ Answered (unread_text line reason (stop_of text.now)) out.old out.new result }
+/// Writes what is said of a text that is refused at this line, where its reading stops so.
+pub(crate) fn explain_line<K: Sink>(line: u64, reason: Reason, stop: &Stop, out: &mut K) -> Outcome
+    ensures { EndsExplaining ⟦<K as Sink>⟧ Answered (unread_text line reason stop.now) out.old out.new result }
 {
-    match find_stop(alloc, text) {
-        Ok(stop) => after_writing(write_unread(line, reason, &stop, out), Outcome::Answered),
-        Err(_) => Outcome::NoMemory,
-    }
+    after_writing(write_unread(line, reason, stop, out), Outcome::Answered)
 }
 
-/// Writes what is said of a text that gives no table for this reason.
-fn explain_error<K: Sink>(alloc: Global, text: &[u8], error: TableError, out: &mut K) -> Outcome
-    requires { Fails error (answer_of text.now) }
-    ensures { EndsExplaining ⟦<K as Sink>⟧ (explain_answer text.now) (explanation text.now) out.old out.new result }
+/// Writes what is said of a text that gives no table, whose reading came to this.
+fn explain_unread<K: Sink>(unread: Unread, out: &mut K) -> Outcome
+    ensures { (text : List ℕ) → Fails unread.error (answer_of text) → (unread.error ≢ Memory → unread.stop ≡ stop_of text)
+        → EndsExplaining ⟦<K as Sink>⟧ (explain_answer text) (explanation text) out.old out.new result }
 {
+    let Unread { error, stop } = unread;
     match error {
-        TableError::Text { line, reason } => explain_unread(alloc, text, line, reason, out),
+        TableError::Text { line, reason } => explain_line(line, reason, &stop, out),
         TableError::Whole(reason) => after_writing(write_whole(reason, out), Outcome::Answered),
         TableError::Memory => Outcome::NoMemory,
     }
@@ -205,9 +198,9 @@ fn explain_error<K: Sink>(alloc: Global, text: &[u8], error: TableError, out: &m
 fn explain_text<K: Sink>(alloc: Global, text: &[u8], out: &mut K) -> Outcome
     ensures { EndsExplaining ⟦<K as Sink>⟧ (explain_answer text.now) (explanation text.now) out.old out.new result }
 {
-    match read_table(alloc, text) {
+    match read_or_stop(alloc, text) {
         Ok(table) => explain_table(alloc, &table, out),
-        Err(error) => explain_error(alloc, text, error, out),
+        Err(unread) => explain_unread(unread, out),
     }
 }
 

@@ -11,7 +11,6 @@
 
 mod audit;
 mod beside;
-mod beyond;
 mod cable_plan;
 mod check;
 mod command;

@@ -29,5 +29,5 @@ pub returns : goal.returns
 returns g c =
     let same = same_told c.args.table.now c.mode-mode.result c.args.least c.args.most c.spare-spare.result c.load-load.result c.mode-mode.ensures.value
     c.spare-spare.ensures c.load-load.ensures in
-    subst (λ (t : List ℕ). Adds g.K.Sink.held g.K.Sink.faults c.args.sink.now c.put_load.new.sink c.args.text.now c.put_load.new.text t) same
-    (c.put.ensures ▸ c.put-2.ensures ▸ c.put_cycles.ensures ▸ c.put_spare.ensures ▸ c.put_load.ensures)
+    subst (λ (t : List ℕ). Adds g.K.Sink.held g.K.Sink.faults c.args.sink.now c.put_load_line.new.sink c.args.text.now c.put_load_line.new.text t) same
+    (c.put.ensures ▸ c.put-2.ensures ▸ c.put_cycles.ensures ▸ c.put_spare.ensures ▸ c.put_load_line.ensures)

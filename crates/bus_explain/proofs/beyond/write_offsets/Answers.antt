@@ -1,5 +1,5 @@
 use Rattle.bus_outer.proofs.TextLaws.{ends_text}
-use Rattle.bus_tool.proofs.beyond.write_offsets.Goals as goal
+use Rattle.bus_explain.proofs.beyond.write_offsets.Goals as goal
 
 pub returns : goal.returns
 returns g c = search ends_text depth 40

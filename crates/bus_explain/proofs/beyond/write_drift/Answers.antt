@@ -3,8 +3,8 @@ use Rattle.std.proofs.Common.{sym, subst}
 use Rattle.bus_outer.specs.Sinks.{WritesText}
 use Rattle.bus_outer.specs.declared.sink.WriteFault.{WriteFault as Fault}
 use Rattle.bus_outer.proofs.WriteLaws.{writes_nothing}
-use Rattle.bus_tool.specs.Explanations.{drifting_in}
-use Rattle.bus_tool.proofs.beyond.write_drift.Goals as goal
+use Rattle.bus_explain.specs.Beyond.{drifting_in}
+use Rattle.bus_explain.proofs.beyond.write_drift.Goals as goal
 
 pub returns-in-Aperiodic : goal.returns-in-Aperiodic
 returns-in-Aperiodic g c =

@@ -1,10 +1,10 @@
-//! What `explain` tells of an accepted table beyond itself: with other offsets, and where clocks are off.
-ghost use Rattle.std.specs.Prelude.{◌≡◌, ◌++◌};
+//! What is said of an accepted table beyond itself: with other offsets, and where clocks are off.
+ghost use Rattle.std.specs.Prelude.{◌≡◌};
 ghost use Rattle.bus_outer.specs.Sinks.{WritesText};
 ghost use Rattle.bus_outer.specs.Texts.{Adds};
-ghost use Rattle.bus_tool.specs.Explanations.{drifting_in, most_line, offsets_line};
+ghost use Rattle.bus_explain.specs.Beyond.{beyond_text, drifting_in, most_line, offsets_line};
 
-use bus_explain::put_time;
+use crate::times::put_time;
 use bus_margins_periodic::write_drifting;
 use bus_outer::{Sink, TextBuffer, WriteFault};
 use bus_table::{Mode, Table};
@@ -53,13 +53,14 @@ fn write_offsets<K: Sink>(most: Option<u32>, out: &mut K) -> Result<(), WriteFau
     text.finish(out)
 }
 
-/// Writes both, where this is the greatest delay.
-pub(crate) fn write_beyond<K: Sink>(
+/// Writes what is said of an accepted table beyond itself, where any offsets bear at most this delay, in bit times, if that is known. It takes
+/// no memory.
+pub fn write_beyond<K: Sink>(
     table: &Table,
     most: Option<u32>,
     out: &mut K,
 ) -> Result<(), WriteFault>
-    ensures { WritesText K.held K.faults out.old out.new result (offsets_line most ++ drifting_in table.now.mode table.now) }
+    ensures { WritesText K.held K.faults out.old out.new result (beyond_text most table.now) }
 {
     write_offsets(most, out)?;
     write_drift(table.mode(), table, out)

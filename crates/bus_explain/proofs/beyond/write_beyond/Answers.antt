@@ -1,9 +1,9 @@
 use Rattle.std.proofs.Common.{ap, subst}
 use Rattle.bus_outer.specs.Sinks.{WritesText}
 use Rattle.bus_outer.proofs.WriteLaws.{writes_then}
-use Rattle.bus_tool.specs.Explanations.{drifting_in, offsets_line}
-use Rattle.bus_tool.proofs.CutLemmas.{text_cut}
-use Rattle.bus_tool.proofs.beyond.write_beyond.Goals as goal
+use Rattle.bus_explain.specs.Beyond.{drifting_in, offsets_line}
+use Rattle.bus_explain.proofs.CutLemmas.{text_cut}
+use Rattle.bus_explain.proofs.beyond.write_beyond.Goals as goal
 
 pub returns : goal.returns
 returns g c =

@@ -1,5 +1,5 @@
 use Rattle.bus_outer.proofs.TextLaws.{◌▸◌}
-use Rattle.bus_tool.proofs.beyond.put_most.Goals as goal
+use Rattle.bus_explain.proofs.beyond.put_most.Goals as goal
 
 pub returns : goal.returns
 returns g c =
