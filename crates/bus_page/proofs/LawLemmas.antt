@@ -105,7 +105,7 @@ places_are_apart scale a b is from rise to =
 pub widths_are_of_the_scale : WidthsAreOfTheScale
 widths_are_of_the_scale scale a b top height is from rise to =
     let apart = places_are_apart scale a b is from rise to in
-    (omega (arith, apart.0), omega (arith, apart.1))
+    (omega (arith, apart.0), omega (arith, apart.1), omega arith)
 
 -- ---- turns
 short_follow : (short long : ℕ) (order : List Sender) → FollowOneAnother (λ turn. turn.short) short (turns_from short long order)

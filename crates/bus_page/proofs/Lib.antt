@@ -4,7 +4,6 @@ mod RowLemmas
 mod TurnLemmas
 mod AcceptLemmas
 mod LawLemmas
-mod CutLemmas
 mod PageLemmas
 mod SyncLemmas
 mod BarLemmas

@@ -13,7 +13,9 @@ use Rattle.bus_shapes.specs.Scales.{place}
 use Rattle.bus_shapes.specs.declared.area.Area.{Area}
 use Rattle.bus_shapes.specs.Shapes.{words_text}
 use Rattle.bus_page.specs.Messages.{area_of}
-use Rattle.bus_page.specs.Measures.{bar_height, bar_line, beside_bar, row_height, rows_top, rules_left, rules_width}
+use Rattle.bus_page.specs.declared.measures.TheConstants.{BAR_HEIGHT as bar_height, BAR_LINE as bar_line, BESIDE_BAR as beside_bar}
+use Rattle.bus_page.specs.declared.measures.TheConstants.{ROW_HEIGHT as row_height, ROWS_TOP as rows_top, RULES_LEFT as rules_left}
+use Rattle.bus_page.specs.declared.measures.TheConstants.{RULES_WIDTH as rules_width}
 use Rattle.bus_page.specs.Rows.{rows}
 use Rattle.bus_page.specs.Paints.{Bears, Limits, Paint, Tolerance, picture_end, picture_front, plain}
 

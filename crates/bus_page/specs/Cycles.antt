@@ -8,7 +8,8 @@ use Rattle.bus_shapes.specs.declared.class.Class.TheVariants.{Detail, GapWords, 
 use Rattle.bus_shapes.specs.declared.scale.Scale.{Scale}
 use Rattle.bus_shapes.specs.Scales.{place}
 use Rattle.bus_shapes.specs.Shapes.{words_text}
-use Rattle.bus_page.specs.Measures.{plot_left, plot_width, box_height, short_top, long_top}
+use Rattle.bus_page.specs.declared.measures.TheConstants.{PLOT_LEFT as plot_left, PLOT_WIDTH as plot_width, BOX_HEIGHT as box_height}
+use Rattle.bus_page.specs.declared.measures.TheConstants.{SHORT_TOP as short_top, LONG_TOP as long_top}
 use Rattle.bus_page.specs.Messages.{axes_text, gap_text, lane_text, stretch_text}
 use Rattle.bus_page.specs.Paints.{Interval, Spare, painted, picture_end, picture_front, plain}
 pub use Rattle.bus_page.specs.declared.cycles.Times.{Times}

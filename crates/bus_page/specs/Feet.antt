@@ -33,9 +33,10 @@ shown byte =
 abbrev pub shown_text : List ℕ → List ℕ
 shown_text bytes = flat_map shown bytes
 
--- The text under its heading.
+-- The text under its heading. HTML drops a line feed behind the beginning, so that one with which the text begins is kept.
 abbrev pub given_text : List ℕ → List ℕ
-given_text bytes = section_text (codes "The text of the table") ++ codes "<pre class=\"table\">" ++ shown_text bytes ++ codes "</pre>\n"
+given_text bytes =
+    section_text (codes "The text of the table") ++ codes "<pre class=\"table\">\n" ++ shown_text bytes ++ codes "</pre>\n"
 
 -- ---- what stands behind the page
 abbrev pub program_figure : (program : List ℕ) → List ℕ

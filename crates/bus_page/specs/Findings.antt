@@ -3,6 +3,7 @@ use Rattle.std.specs.Prelude.{◌≡◌, ℕ, ◌<◌, ◌≤◌, ◌^◌, false
 use Rattle.bus_table.specs.Tables.{Table}
 use Rattle.bus_regime.specs.Verdicts.{verdict_of, is_accepted}
 use Rattle.bus_advice.specs.Advices.{advices_of, periodic_table}
+use Rattle.bus_cable_plan.specs.Answers.{most_borne_of}
 use Rattle.bus_explain.specs.Accepted.{IsAcceptedWith}
 use Rattle.bus_reach.specs.Bearing.{tolerance_of}
 use Rattle.bus_reach.specs.Limits.{limits_of}
@@ -18,6 +19,7 @@ pub record AreFigures (table : Table) (figures : Figures) : Type 0 where
   pub verdict : figures.verdict ≡ verdict_of table
   pub accepted : IsAcceptedWith table figures.least figures.most
   pub tolerance : figures.tolerance ≡ tolerance_of table
+  pub offsets : figures.offsets ≡ most_borne_of table
   pub limits : figures.limits.items ≡ limits_of table
   pub advices : figures.advices.items ≡ advices_of table
   pub turns : figures.turns.items ≡ turns_of table

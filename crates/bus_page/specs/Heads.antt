@@ -1,13 +1,12 @@
 -- What a page begins with: the verdict in words, and the figures of an accepted table.
 --   least, most   the verdict's
 use Rattle.std.specs.Prelude.{ℕ, Bool, true, false, List, ◌++◌, codes, decimal, Option, Some, None, unwrap_or}
-use Rattle.bus_strings.specs.Shares.{share_text}
 use Rattle.bus_table.specs.declared.mode.Mode.{Mode}
 use Rattle.bus_table.specs.declared.mode.Mode.TheVariants.{Aperiodic, Periodic}
 use Rattle.bus_table.specs.Tables.{Table}
 use Rattle.bus_regime.specs.declared.table_verdict.TableVerdict.{TableVerdict}
 use Rattle.bus_regime.specs.Lines.{verdict_words}
-use Rattle.bus_explain.specs.Figures.{load, spare}
+use Rattle.bus_explain.specs.Figures.{load, load_words, spare}
 use Rattle.bus_explain.specs.Times.{time_text}
 use Rattle.bus_bounds.specs.Bounds.{Bounds}
 use Rattle.bus_margins.specs.declared.level.Level.{Level as AperiodicLevel}
@@ -113,7 +112,7 @@ abbrev pub spare_figure : ℕ → List ℕ
 spare_figure spare = figure (codes "spare") (time_text spare)
 
 abbrev pub load_figure : ℕ → List ℕ
-load_figure load = figure (codes "load") (share_text load)
+load_figure load = figure (codes "load") (load_words load)
 
 abbrev pub tolerance_figure : Option ℕ → List ℕ
 tolerance_figure tolerance = figure (codes "tolerance of delays") (tolerance_words tolerance)

@@ -8,7 +8,7 @@ use Rattle.bus_shapes.specs.declared.scale.Scale.{Scale}
 use Rattle.bus_shapes.specs.declared.area.Area.{Area}
 use Rattle.bus_shapes.specs.Shapes.{words_text}
 use Rattle.bus_page.specs.Messages.{area_of, axes_text, lane_text, message_text, terminal_name}
-use Rattle.bus_page.specs.Measures.{plot_left, plot_width, short_top}
+use Rattle.bus_page.specs.declared.measures.TheConstants.{PLOT_LEFT as plot_left, PLOT_WIDTH as plot_width, SHORT_TOP as short_top}
 use Rattle.bus_page.specs.Paints.{Gap, Paint, Synchronizes, painted, picture_end, picture_front}
 use Rattle.bus_page.specs.Slots.{All, Nobody, Others, Slot, Synced}
 

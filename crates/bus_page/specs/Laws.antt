@@ -1,5 +1,6 @@
 -- What holds of the pictures and numbers of a page. The contracts of `laws` say that each of these holds.
-use Rattle.std.specs.Prelude.{◌≡◌, ◌≢◌, ◌⊎◌, ◌↔◌, ℕ, ◌+◌, ◌-◌, ◌*◌, ◌/◌, ◌≤◌, ◌==◌, max, Bool, true, false, IsTrue, List, [], ◌∷◌, length, codes}
+use Rattle.std.specs.Prelude.{◌≡◌, ◌≢◌, ◌⊎◌, ◌↔◌, ℕ, ◌+◌, ◌-◌, ◌*◌, ◌/◌, ◌≤◌, ◌==◌, max, Bool, true, false, IsTrue, List, [], ◌∷◌, length}
+use Rattle.std.specs.Prelude.{codes}
 use Rattle.std.specs.Prelude.{Some, if◌then◌else◌}
 use Rattle.std.specs.List.{list_all, sum_by}
 use Rattle.bus_strings.specs.Members.{In}
@@ -34,12 +35,13 @@ use Rattle.bus_page.specs.Turns.{Stretch, Turn, turns_of}
 abbrev pub scaled : Scale → ℕ → ℕ
 scaled scale bits = bits * scale.width / (scale.to - scale.from)
 
--- The box of two moments is as wide as these are apart by the scale, or a unit wider; but at least a pixel.
+-- The box of two moments is as wide as these are apart by the scale, or a unit wider; but it is at least a pixel wide.
 abbrev pub WidthsAreOfTheScale : Type 0
 WidthsAreOfTheScale =
     (scale : Scale) (a b top height : ℕ) → IsScale scale → scale.from ≤ a → a ≤ b → b ≤ scale.to
     → (scaled scale (b - a) ≤ (area_of scale a b top height).width)
     × ((area_of scale a b top height).width ≤ max (scaled scale (b - a) + 1) pixel)
+    × (pixel ≤ (area_of scale a b top height).width)
 
 -- ---- bars
 -- What the bars of an accepted table tell of the delays that it bears:
@@ -69,7 +71,8 @@ FollowOneAnother of end (turn ∷ turns) = ((of turn).gap ≡ end) × FollowOneA
 -- In both cycles that are drawn the first gap begins where the synchronization gap ends, and each other one where a message does.
 abbrev pub TurnsFollowOneAnother : Type 0
 TurnsFollowOneAnother =
-    (table : Table) → FollowOneAnother (λ turn. turn.short) table.sg (turns_of table) × FollowOneAnother (λ turn. turn.long) table.sg (turns_of table)
+    (table : Table) → FollowOneAnother (λ turn. turn.short) table.sg (turns_of table)
+    × FollowOneAnother (λ turn. turn.long) table.sg (turns_of table)
 
 -- Where the last of the messages of these turns ends, and `end` where there is none.
 abbrev pub last_end : (Turn → Stretch) → ℕ → List Turn → ℕ
@@ -87,7 +90,7 @@ CyclesAreTheVerdicts =
 abbrev pub slot_bits : Slot → ℕ
 slot_bits slot = (slot.to - slot.from) + (slot.message.to - slot.message.from)
 
--- The gaps and messages that are drawn of an interval fill it, to the bit time.
+-- The gaps and messages that are drawn of an interval have all its bit times: together as many as it has.
 abbrev pub SlotsFillTheInterval : Type 0
 SlotsFillTheInterval =
     (table : Table) (least most : ℕ) → IsTrue (is_valid table) → table.mode ≡ Periodic → IsAcceptedWith table least most

@@ -1,5 +1,4 @@
 -- What the contracts of this crate cite.
-pub mod Measures
 pub mod Rows
 pub mod Styles
 pub mod Paints

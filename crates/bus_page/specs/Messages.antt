@@ -9,7 +9,9 @@ use Rattle.bus_shapes.specs.declared.scale.Scale.{Scale}
 use Rattle.bus_shapes.specs.Axes.{axis_text}
 use Rattle.bus_shapes.specs.Scales.{extent, place}
 use Rattle.bus_shapes.specs.Shapes.{words_text}
-use Rattle.bus_page.specs.Measures.{words_right, box_height, box_line, gap_below, gap_height, wide_box, narrow_box}
+use Rattle.bus_page.specs.declared.measures.TheConstants.{WORDS_RIGHT as words_right, BOX_HEIGHT as box_height, BOX_LINE as box_line}
+use Rattle.bus_page.specs.declared.measures.TheConstants.{GAP_BELOW as gap_below, GAP_HEIGHT as gap_height, WIDE_BOX as wide_box}
+use Rattle.bus_page.specs.declared.measures.TheConstants.{NARROW_BOX as narrow_box}
 use Rattle.bus_page.specs.Paints.{Gap, Sent, painted, plain}
 use Rattle.bus_page.specs.Turns.{Stretch}
 

@@ -17,17 +17,19 @@ use Rattle.bus_regime.specs.Verdicts.{verdict_of}
 use Rattle.bus_regime.specs.declared.table_verdict.TableVerdict.{TableVerdict}
 use Rattle.bus_regime.specs.declared.table_verdict.TableVerdict.TheVariants.{Accept, ShortCycle, SmallGap, NoSync}
 use Rattle.bus_advice.specs.Advices.{advices_of, periodic_table}
+use Rattle.bus_cable_plan.specs.Answers.{most_borne_of}
 use Rattle.bus_explain.specs.Accepted.{summary_text}
+use Rattle.bus_explain.specs.Beyond.{beyond_text}
 use Rattle.bus_explain.specs.Refused.{refused_text}
 use Rattle.bus_explain.specs.Unread.{unread_text}
 use Rattle.bus_explain.specs.Wholes.{whole_text}
 use Rattle.bus_margins.specs.Texts.{aperiodic_text}
-use Rattle.bus_margins_periodic.specs.Sentences.{drifting_text}
 use Rattle.bus_margins_periodic.specs.Texts.{periodic_text}
 use Rattle.bus_reach.specs.Bearing.{tolerance_of}
 use Rattle.bus_page.specs.Cycles.{Times, cycles_text}
 use Rattle.bus_page.specs.Feet.{foot_text, resting_text}
-use Rattle.bus_page.specs.Heads.{bare_head_text, bare_heading_text, bounds_of, figures_text, head_text, heading_text, section_text, verdict_text}
+use Rattle.bus_page.specs.Heads.{bare_head_text, bare_heading_text, bounds_of, figures_text, head_text, heading_text, section_text}
+use Rattle.bus_page.specs.Heads.{verdict_text}
 use Rattle.bus_reach.specs.Limits.{limits_of}
 use Rattle.bus_page.specs.Bars.{bars_text}
 use Rattle.bus_page.specs.Intervals.{interval_text}
@@ -78,15 +80,10 @@ accepted_front asked table least most =
     ++ figures_text (bounds_of asked) table least most (tolerance_of table) ++ pictures_text asked table least most ++ resting_text
     ++ section_text (codes "What it means") ++ codes "<pre class=\"said\">"
 
--- What is said of a table of this mode where clocks are off: of an aperiodic one it is told whether it starts itself.
-abbrev pub drifting_in : Mode → Table → List ℕ
-drifting_in Aperiodic table = []
-drifting_in Periodic table = drifting_text table
-
 -- Its sentences: those of `explain`, but without what is said of each sender, which the pictures and the text show.
 abbrev pub accepted_sentences : Table → (least most : ℕ) → List ℕ
 accepted_sentences table least most =
-    summary_text table least most (tolerance_of table) (advices_of table) ++ drifting_in table.mode table
+    summary_text table least most (tolerance_of table) (advices_of table) ++ beyond_text (most_borne_of table) table
 
 -- What `margins` writes of a table of this mode.
 abbrev pub margins_text : Mode → Bounds → Table → List ℕ

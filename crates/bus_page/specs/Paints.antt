@@ -2,7 +2,8 @@
 use Rattle.std.specs.Prelude.{ℕ, List, ◌++◌, codes, decimal}
 use Rattle.bus_shapes.specs.declared.area.Area.{Area}
 pub use Rattle.bus_page.specs.declared.paint.Paint.{Paint}
-pub use Rattle.bus_page.specs.declared.paint.Paint.TheVariants.{Sent, Gap, Synchronizes, Interval, Spare, Bears, Limits, Wait, Tolerance, Need}
+pub use Rattle.bus_page.specs.declared.paint.Paint.TheVariants.{Sent, Gap, Synchronizes, Interval, Spare, Bears, Limits, Wait, Tolerance}
+pub use Rattle.bus_page.specs.declared.paint.Paint.TheVariants.{Need}
 
 -- What a box is called, by which the style finds it.
 abbrev pub paint_name : Paint → List ℕ

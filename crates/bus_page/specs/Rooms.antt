@@ -20,7 +20,9 @@ use Rattle.bus_shapes.specs.Shapes.{words_text}
 use Rattle.bus_page.specs.Bars.{paint_of, words_class}
 use Rattle.bus_page.specs.Heads.{section_text}
 use Rattle.bus_page.specs.Messages.{area_of}
-use Rattle.bus_page.specs.Measures.{bar_height, bar_line, beside_bar, row_height, rows_top, rules_left, rules_width}
+use Rattle.bus_page.specs.declared.measures.TheConstants.{BAR_HEIGHT as bar_height, BAR_LINE as bar_line, BESIDE_BAR as beside_bar}
+use Rattle.bus_page.specs.declared.measures.TheConstants.{ROW_HEIGHT as row_height, ROWS_TOP as rows_top, RULES_LEFT as rules_left}
+use Rattle.bus_page.specs.declared.measures.TheConstants.{RULES_WIDTH as rules_width}
 use Rattle.bus_page.specs.Paints.{Need, painted, picture_end, picture_front, plain}
 pub use Rattle.bus_page.specs.declared.room.Span.{Span}
 
@@ -116,16 +118,22 @@ abbrev pub mode_rooms : Mode → Bounds → Table → List ℕ
 mode_rooms Aperiodic bounds table = aperiodic_picture (aperiodic_margins.margins_of bounds table).rooms
 mode_rooms Periodic bounds table = periodic_picture (periodic_margins.margins_of bounds table).rooms
 
+-- Of a periodic table, which level needs the rules that have bars.
+abbrev pub leading_words : Mode → List ℕ
+leading_words Aperiodic = []
+leading_words Periodic =
+    codes "Level <code>turns</code> needs all these; level <code>leads</code> needs <code>hearing</code>, and others without bars. "
+
 -- Under its heading, with what its bars mean.
-abbrev pub rooms_front : List ℕ
-rooms_front =
+abbrev pub rooms_front : Mode → List ℕ
+rooms_front mode =
     section_text (codes "Which rule limits the margins")
     ++ codes "<p>The bar of a rule of <code>margins</code> is what there is, and the stroke what it needs of that, "
-    ++ codes "where it leaves the least room; a rule that lacks stands out. Each bar has a scale of its own. What each asks "
-    ++ codes "stands in <code>docs/FORMATS.md</code> of the project's folder.</p>\n"
+    ++ codes "where it leaves the least room; a rule that lacks stands out. Each bar has a scale of its own. " ++ leading_words mode
+    ++ codes "What each asks stands in <code>docs/FORMATS.md</code> of the project's folder.</p>\n"
 
 abbrev pub rooms_section : Bounds → Table → List ℕ
-rooms_section bounds table = rooms_front ++ mode_rooms table.mode bounds table
+rooms_section bounds table = rooms_front table.mode ++ mode_rooms table.mode bounds table
 
 -- The same where bounds are asked for.
 abbrev pub rooms_text : Option Bounds → Table → List ℕ

@@ -12,7 +12,9 @@ use Rattle.bus_shapes.specs.Scales.{place}
 use Rattle.bus_shapes.specs.Shapes.{words_text}
 use Rattle.bus_page.specs.Bars.{words_class}
 use Rattle.bus_page.specs.Messages.{area_of, terminal_name}
-use Rattle.bus_page.specs.Measures.{bar_height, bar_line, beside_bar, row_height, rows_top, waits_left, waits_width}
+use Rattle.bus_page.specs.declared.measures.TheConstants.{BAR_HEIGHT as bar_height, BAR_LINE as bar_line, BESIDE_BAR as beside_bar}
+use Rattle.bus_page.specs.declared.measures.TheConstants.{ROW_HEIGHT as row_height, ROWS_TOP as rows_top, WAITS_LEFT as waits_left}
+use Rattle.bus_page.specs.declared.measures.TheConstants.{WAITS_WIDTH as waits_width}
 use Rattle.bus_page.specs.Rows.{rows}
 use Rattle.bus_page.specs.Paints.{Limits, Paint, Sent, Wait, picture_end, picture_front, plain}
 

@@ -7,6 +7,7 @@ ghost use Rattle.bus_page.specs.Findings as definition;
 use crate::slot::{Slot, slots};
 use crate::turn::{Turn, turns};
 use bus_advice::{Advice, advices, periodic_table};
+use bus_cable_plan::most_borne;
 use bus_reach::{Limit, limits, tolerance};
 use bus_regime::{TableVerdict, verdict};
 use bus_table::Table;
@@ -23,7 +24,9 @@ pub struct Figures {
     pub most: u64,
     /// The greatest delay that it bears, in bit times; None where it bears every delay.
     pub tolerance: Option<u64>,
-    /// What limits that, rule by rule.
+    /// The greatest delay that any offsets bear, in bit times, where it is known.
+    pub offsets: Option<u32>,
+    /// What limits the tolerance, rule by rule.
     pub limits: Vec<Limit>,
     /// The advices on it.
     pub advices: Vec<Advice>,
@@ -70,6 +73,7 @@ fn figures_of(
         least,
         most,
         tolerance: tolerance(table),
+        offsets: most_borne(alloc, table)?,
         limits: limits(alloc, table)?,
         advices: advices(alloc, table, &verdict)?,
         turns: turns(alloc, table)?,

@@ -63,7 +63,7 @@ fn put_given<K: Sink>(text: &mut TextBuffer, sink: &mut K, bytes: &[u8])
     ensures { Adds K.held K.faults sink.old sink.new text.old text.new (definition.given_text bytes.now) }
 {
     put_section(text, sink, b"The text of the table");
-    text.put(sink, b"<pre class=\"table\">");
+    text.put(sink, b"<pre class=\"table\">\n");
     put_shown_text(text, sink, bytes);
     text.put(sink, b"</pre>\n");
 }

@@ -7,12 +7,11 @@ ghost use Rattle.bus_page.specs.Heads as definition;
 
 use crate::style::put_style;
 use bus_bounds::Bounds;
-use bus_explain::{load, put_time, spare};
+use bus_explain::{load, put_load, put_time, spare};
 use bus_margins::Level as AperiodicLevel;
 use bus_margins_periodic::Level as PeriodicLevel;
 use bus_outer::{Sink, TextBuffer};
 use bus_regime::{TableVerdict, put_verdict};
-use bus_strings::put_share;
 use bus_table::{Mode, Table};
 
 /// Puts all up to the words of the title.
@@ -229,7 +228,7 @@ fn put_load_figure<K: Sink>(text: &mut TextBuffer, sink: &mut K, load: u128)
     ensures { Adds K.held K.faults sink.old sink.new text.old text.new (definition.load_figure load) }
 {
     begin_figure(text, sink, b"load");
-    put_share(text, sink, load);
+    put_load(text, sink, load);
     end_figure(text, sink);
 }
 

@@ -1,5 +1,6 @@
 //! What holds of the pictures and numbers of a page.
-ghost use Rattle.bus_page.specs.Laws.{WidthsAreOfTheScale, CyclesAreTheVerdicts, SlotsFillTheInterval, EachIsSynchronized, WaitsAreLatencies};
+ghost use Rattle.bus_page.specs.Laws.{WidthsAreOfTheScale, CyclesAreTheVerdicts, SlotsFillTheInterval, EachIsSynchronized};
+ghost use Rattle.bus_page.specs.Laws.{WaitsAreLatencies};
 ghost use Rattle.bus_page.specs.Laws.{BarsAreTheRules, ChecksumIsCrc32, RoomsAreTheRules, TextsHaveNoTags, TurnsFollowOneAnother};
 
 use bus_explain::laws::load_is_of_longest_cycle;
@@ -20,8 +21,8 @@ pub fn turns_follow_one_another()
     ensures { TurnsFollowOneAnother }
 {}
 
-/// An accepted table bears exactly the delays that each rule bears of which a bar is drawn, and a bar stands out exactly where its rule bears
-/// no more.
+/// An accepted table bears exactly the delays that each rule bears of which a bar is drawn, and a bar stands out exactly where its rule
+/// bears no more.
 pub fn bars_are_the_rules()
     ensures { BarsAreTheRules }
 {
@@ -34,7 +35,7 @@ pub fn rooms_are_the_rules()
     ensures { RoomsAreTheRules }
 {}
 
-/// The gaps and messages that are drawn of the interval of an accepted periodic table fill it, to the bit time.
+/// The gaps and messages that are drawn of the interval of an accepted periodic table have together as many bit times as it has.
 pub fn slots_fill_the_interval()
     ensures { SlotsFillTheInterval }
 {

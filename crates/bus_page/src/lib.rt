@@ -7,7 +7,7 @@
 //! The definitions are in `specs/`: `Pages` (the whole page), `Heads` (the verdict and the figures), `Messages`, `Turns` and `Cycles` (the
 //! shortest and the longest cycle), `Slots` and `Intervals` (the interval of a periodic table), `Bars` (what each rule bears), `Rooms` (the
 //! room of the margins), `Waits` and `Latencies`, `Feet` (the text, and what stands behind the page) with `Checksums`, `Rows`, `Styles`,
-//! `Paints` and `Measures`.
+//! `Paints`. Measures stand once, as constants that these definitions cite.
 #![tactic(auto)]
 
 mod bare;

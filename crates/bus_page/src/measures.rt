@@ -1,4 +1,4 @@
-//! The measures of the pictures of a page, in units of a tenth of a pixel. Contracts have them as the words of `specs/Measures`.
+//! The measures of the pictures of a page, in units of a tenth of a pixel. The definitions cite them.
 
 /// Where the plot of a cycle begins.
 pub(crate) const PLOT_LEFT: u64 = 1500;
@@ -45,13 +45,13 @@ pub(crate) const BAR_HEIGHT: u64 = 150;
 /// How far below its upper edge the line of its words stands.
 pub(crate) const BAR_LINE: u64 = 113;
 
-/// Where bars begin that have the words of a rule before them.
+/// Where bars begin that have the words of a rule before them. Behind them is room for the longest time, in the larger letters of print.
 pub(crate) const RULES_LEFT: u64 = 2300;
 
 /// How wide they are.
 pub(crate) const RULES_WIDTH: u64 = 5500;
 
-/// Where bars begin that have a terminal before them.
+/// Where bars begin that have a terminal before them, with as much room behind.
 pub(crate) const WAITS_LEFT: u64 = 800;
 
 /// How wide they are.

@@ -1,5 +1,5 @@
 //! The rules of the margins of a table, each with its row.
-ghost use Rattle.std.specs.Prelude.{◌<◌};
+ghost use Rattle.std.specs.Prelude.{◌≡◌, ◌<◌};
 ghost use Rattle.bus_outer.specs.Texts.{Adds};
 ghost use Rattle.bus_page.specs.Rooms as definition;
 
@@ -114,9 +114,20 @@ fn put_mode_rooms<K: Sink>(text: &mut TextBuffer, sink: &mut K, table: &Table, b
     }
 }
 
+/// Of a periodic table, which level needs the rules that have bars.
+fn leading_words(mode: Mode) -> &'static [u8]
+    ensures { result.now ≡ definition.leading_words mode }
+{
+    match mode {
+        Mode::Aperiodic => b"",
+        Mode::Periodic =>
+            b"Level <code>turns</code> needs all these; level <code>leads</code> needs <code>hearing</code>, and others without bars. ",
+    }
+}
+
 /// Puts what stands above it: its heading, and what its bars mean.
-fn put_front<K: Sink>(text: &mut TextBuffer, sink: &mut K)
-    ensures { Adds K.held K.faults sink.old sink.new text.old text.new definition.rooms_front }
+fn put_front<K: Sink>(text: &mut TextBuffer, sink: &mut K, mode: Mode)
+    ensures { Adds K.held K.faults sink.old sink.new text.old text.new (definition.rooms_front mode) }
 {
     put_section(text, sink, b"Which rule limits the margins");
     text.put(
@@ -125,11 +136,12 @@ fn put_front<K: Sink>(text: &mut TextBuffer, sink: &mut K)
     );
     text.put(
         sink,
-        b"where it leaves the least room; a rule that lacks stands out. Each bar has a scale of its own. What each asks ",
+        b"where it leaves the least room; a rule that lacks stands out. Each bar has a scale of its own. ",
     );
+    text.put(sink, leading_words(mode));
     text.put(
         sink,
-        b"stands in <code>docs/FORMATS.md</code> of the project's folder.</p>\n",
+        b"What each asks stands in <code>docs/FORMATS.md</code> of the project's folder.</p>\n",
     );
 }
 
@@ -137,7 +149,7 @@ fn put_front<K: Sink>(text: &mut TextBuffer, sink: &mut K)
 fn put_section_of<K: Sink>(text: &mut TextBuffer, sink: &mut K, table: &Table, bounds: Bounds)
     ensures { Adds K.held K.faults sink.old sink.new text.old text.new (definition.rooms_section bounds table.now) }
 {
-    put_front(text, sink);
+    put_front(text, sink, table.mode());
     put_mode_rooms(text, sink, table, bounds);
 }
 

@@ -1,5 +1,5 @@
 //! What is said of an accepted table, and what `margins` writes of it.
-ghost use Rattle.std.specs.Prelude.{◌≡◌, ◌++◌};
+ghost use Rattle.std.specs.Prelude.{◌++◌};
 ghost use Rattle.bus_outer.specs.Sinks.{WritesText};
 ghost use Rattle.bus_outer.specs.Texts.{Adds};
 ghost use Rattle.bus_page.specs.Findings.{AreFigures};
@@ -7,22 +7,11 @@ ghost use Rattle.bus_page.specs.Pages as definition;
 
 use crate::finding::Figures;
 use bus_bounds::Bounds;
-use bus_explain::write_summary;
+use bus_explain::{write_beyond, write_summary};
 use bus_margins::write_aperiodic;
-use bus_margins_periodic::{write_drifting, write_periodic};
+use bus_margins_periodic::write_periodic;
 use bus_outer::{Sink, TextBuffer, WriteFault};
 use bus_table::{Mode, Table};
-
-/// Writes what is said of an accepted table of this mode where clocks are off.
-fn write_drift<K: Sink>(mode: Mode, table: &Table, sink: &mut K) -> Result<(), WriteFault>
-    requires { mode ≡ table.now.mode }
-    ensures { WritesText K.held K.faults sink.old sink.new result (definition.drifting_in mode table.now) }
-{
-    match mode {
-        Mode::Aperiodic => Ok(()),
-        Mode::Periodic => write_drifting(table, sink),
-    }
-}
 
 /// Writes the sentences of an accepted table, without what is said of each sender, which the pictures and the text show.
 pub(crate) fn write_sentences<K: Sink>(
@@ -42,7 +31,7 @@ pub(crate) fn write_sentences<K: Sink>(
         &figures.advices,
         sink,
     )?;
-    write_drift(table.mode(), table, sink)
+    write_beyond(table, figures.offsets, sink)
 }
 
 /// Writes what `margins` writes of a table within bounds.

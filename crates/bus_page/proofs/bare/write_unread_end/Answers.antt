@@ -2,7 +2,7 @@ use Rattle.std.proofs.Common.{◌++◌}
 use Rattle.bus_outer.proofs.WriteLaws.{writes_then}
 use Rattle.bus_explain.specs.Unread.{unread_text}
 use Rattle.bus_page.specs.Feet.{foot_text}
-use Rattle.bus_page.proofs.CutLemmas.{text_cut}
+use Rattle.bus_explain.proofs.CutLemmas.{text_cut}
 use Rattle.bus_page.proofs.bare.write_unread_end.Goals as goal
 
 pub returns : goal.returns

@@ -5,7 +5,7 @@ use Rattle.bus_explain.specs.Unread.{unread_text}
 use Rattle.bus_table.specs.Stops.{stop_of}
 use Rattle.bus_page.specs.Feet.{foot_text}
 use Rattle.bus_page.specs.Pages.{bare_front}
-use Rattle.bus_page.proofs.CutLemmas.{text_cut}
+use Rattle.bus_explain.proofs.CutLemmas.{text_cut}
 use Rattle.bus_page.proofs.bare.write_unread_page.Goals as goal
 
 pub returns : goal.returns

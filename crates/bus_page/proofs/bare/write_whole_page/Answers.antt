@@ -3,7 +3,7 @@ use Rattle.bus_outer.proofs.WriteLaws.{writes_then}
 use Rattle.bus_explain.specs.Wholes.{whole_text}
 use Rattle.bus_page.specs.Feet.{foot_text}
 use Rattle.bus_page.specs.Pages.{bare_front}
-use Rattle.bus_page.proofs.CutLemmas.{text_cut}
+use Rattle.bus_explain.proofs.CutLemmas.{text_cut}
 use Rattle.bus_page.proofs.bare.write_whole_page.Goals as goal
 
 pub returns : goal.returns

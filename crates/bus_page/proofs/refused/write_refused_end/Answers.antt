@@ -9,7 +9,7 @@ use Rattle.bus_explain.specs.Refused.{refused_text}
 use Rattle.bus_regime.specs.Verdicts.{is_accepted}
 use Rattle.bus_table.specs.Tables.{Table}
 use Rattle.bus_page.specs.Feet.{foot_text}
-use Rattle.bus_page.proofs.CutLemmas.{text_cut}
+use Rattle.bus_explain.proofs.CutLemmas.{text_cut}
 use Rattle.bus_page.proofs.refused.write_refused_end.Goals as goal
 
 pub write_refused-requires : goal.write_refused-requires

@@ -1,6 +1,6 @@
 use Rattle.bus_outer.proofs.WriteLaws.{writes_then}
 use Rattle.bus_page.specs.Pages.{refused_end, refused_front}
-use Rattle.bus_page.proofs.CutLemmas.{text_cut}
+use Rattle.bus_explain.proofs.CutLemmas.{text_cut}
 use Rattle.bus_page.proofs.refused.write_refused_page.Goals as goal
 
 pub returns : goal.returns

@@ -1,7 +1,7 @@
 use Rattle.std.proofs.Common.{◌++◌}
 use Rattle.bus_outer.proofs.WriteLaws.{writes_then}
 use Rattle.bus_page.specs.Pages.{asked_front, margins_text}
-use Rattle.bus_page.proofs.CutLemmas.{text_cut}
+use Rattle.bus_explain.proofs.CutLemmas.{text_cut}
 use Rattle.bus_page.proofs.sentences.write_margins_section.Goals as goal
 
 pub returns : goal.returns
