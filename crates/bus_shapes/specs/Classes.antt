@@ -1,6 +1,6 @@
 -- The classes of boxes and words: what each is called in a picture, and how it looks. Blue and vermillion, by Okabe and Ito, are told
--- apart by a colour-blind person. What shall be told apart in grey is so by its pattern: what is garbled is hatched one way, what lies behind
--- the horizon the other way, and the line of a gap is dashed.
+-- apart by a colour-blind person. What shall be told apart in grey is so by its pattern: what is garbled is hatched one way, what lies
+-- behind the horizon the other way, and the line of a gap is dashed.
 use Rattle.std.specs.Prelude.{ℕ, Bool, true, false, List, [], ◌∷◌, ◌++◌, codes, if◌then◌else◌}
 use Rattle.std.specs.List.{flat_map}
 pub use Rattle.bus_shapes.specs.declared.class.Class.{Class}

@@ -6,7 +6,8 @@ use Rattle.bus_regime.specs.Lines.{verdict_words}
 use Rattle.bus_table.specs.Tables.{Table}
 use Rattle.bus_shapes.specs.Classes.{Answer, Background, Fault, Note, rule_text, rules_text}
 use Rattle.bus_shapes.specs.Classes as classes
-use Rattle.bus_shapes.specs.Headings.{Told, Audit, OnCable, Findings, sending_words, told_heading, told_words, verdict_class, verdict_heading}
+use Rattle.bus_shapes.specs.Headings.{Told, Audit, OnCable, Findings, sending_words, told_heading, told_words, verdict_class}
+use Rattle.bus_shapes.specs.Headings.{verdict_heading}
 use Rattle.bus_shapes.specs.Numbers.{parted}
 use Rattle.bus_shapes.specs.Sayings.{counted, table_words}
 use Rattle.bus_shapes.specs.Shapes.{Area, box_text, words_text}
@@ -18,8 +19,8 @@ use Rattle.bus_shapes.specs.Measures.{answer_line, facts_line, head_line, left_m
 abbrev pub font_text : List ℕ
 font_text = codes "text{font-family:DejaVu Sans Mono,Menlo,Consolas,monospace;font-size:110px;fill:#222;pointer-events:none}\n"
 
--- The patterns that are told apart in grey, each a ground and a stripe: the hatching of what is garbled, the stripes across what is too narrow
--- for it, the hatching of what lies behind the horizon, the other way, and the dashes of a gap.
+-- The patterns that are told apart in grey, each a ground and a stripe: the hatching of what is garbled, the stripes across what is too
+-- narrow for it, the hatching of what lies behind the horizon, the other way, and the dashes of a gap.
 abbrev pub hatch_text : List ℕ
 hatch_text =
     codes "<defs><pattern id=\"hatch\" width=\"80\" height=\"80\" patternUnits=\"userSpaceOnUse\" patternTransform=\"rotate(45)\">"
@@ -96,7 +97,8 @@ facts_text told table counts =
 -- All that stands before the plot of a picture of this height, of a list.
 abbrev pub frame_text : ℕ → TableVerdict → Told → Table → List Entry → Counts → List ℕ
 frame_text height verdict told table list counts =
-    size_text height ++ title_text (verdict_words verdict) (told_words told) ++ style_text ++ told_style told ++ box_text Background (background height)
+    size_text height ++ title_text (verdict_words verdict) (told_words told) ++ style_text ++ told_style told
+    ++ box_text Background (background height)
     ++ heads_text verdict told list ++ facts_text told table counts
 
 -- The end of a picture.

@@ -1,5 +1,5 @@
--- The heading of a picture: what the verdict on the table comes to, and what is told of the trace, in words. Times are in bit times, and those
--- of a cycle and of a breach in microseconds too.
+-- The heading of a picture: what the verdict on the table comes to, and what is told of the trace, in words. Times are in bit times, and
+-- those of a cycle and of a breach in microseconds too.
 use Rattle.std.specs.Prelude.{ℕ, Bool, true, false, List, [], ◌++◌, codes, Option, Some, None, is_some, if◌then◌else◌}
 use Rattle.std.specs.Fmt.{decimal, signed_decimal}
 use Rattle.bus_strings.specs.Messages.{Entry}
@@ -28,10 +28,12 @@ pub use Rattle.bus_shapes.specs.declared.told.Told.TheVariants.{Audit, OnCable, 
 -- An acceptance: the shortest and the longest cycle, which in periodic mode are one.
 abbrev pub accept_heading : Mode → ℕ → ℕ → List ℕ
 accept_heading Aperiodic least most =
-    codes "ACCEPT aperiodic, cycle " ++ parted (decimal least) ++ codes " to " ++ parted (decimal most) ++ codes " bit times (" ++ parted_microseconds least
+    codes "ACCEPT aperiodic, cycle " ++ parted (decimal least) ++ codes " to " ++ parted (decimal most) ++ codes " bit times ("
+    ++ parted_microseconds least
     ++ codes " to " ++ parted_microseconds most ++ microseconds_unit ++ codes ")"
 accept_heading Periodic least most =
-    codes "ACCEPT periodic, cycle " ++ parted (decimal least) ++ codes " bit times (" ++ parted_microseconds least ++ microseconds_unit ++ codes ")"
+    codes "ACCEPT periodic, cycle " ++ parted (decimal least) ++ codes " bit times (" ++ parted_microseconds least
+    ++ microseconds_unit ++ codes ")"
 
 -- A verdict.
 abbrev pub verdict_heading : TableVerdict → List ℕ
@@ -53,10 +55,11 @@ verdict_class (SmallGap terminal gap needed) = Refusal
 verdict_class (NoSync terminal gap needed) = Refusal
 
 -- ---- the audit
--- What a terminal does that doesn't start where it should: it starts so many bit times later, or not any more.
+-- What a terminal does that doesn't start where it should: its next start is so many bit times later, whether it is the one that is due or
+-- another, or there is none any more.
 abbrev pub missing_words : Option ℕ → List ℕ
 missing_words None = codes " should start and doesn't"
-missing_words (Some n) = codes " starts " ++ counted n (codes "bit time") ++ codes " later"
+missing_words (Some n) = codes " is due, next start in " ++ counted n (codes "bit time")
 
 -- What a terminal does that breaches at a moment of a list.
 abbrev pub breach_words : List Entry → ℕ → ℕ → BreachKind → List ℕ

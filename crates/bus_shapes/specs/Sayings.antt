@@ -23,7 +23,8 @@ counted count name = parted (decimal count) ++ codes " " ++ name ++ ending count
 -- A mode, the transmit interval, the synchronization gap, and how many senders there are.
 abbrev pub summary_words : Mode → ℕ → ℕ → ℕ → List ℕ
 summary_words mode ti sg senders =
-    mode_word mode ++ codes " TI " ++ parted (decimal ti) ++ codes " SG " ++ parted (decimal sg) ++ codes ", " ++ counted senders (codes "sender")
+    mode_word mode ++ codes " TI " ++ parted (decimal ti) ++ codes " SG " ++ parted (decimal sg) ++ codes ", "
+    ++ counted senders (codes "sender")
 
 -- The same of a table.
 abbrev pub table_words : Table → List ℕ

@@ -130,13 +130,12 @@ pub(crate) fn verdict_class(verdict: &TableVerdict) -> Class
     }
 }
 
-/// That a terminal starts so many bit times later.
+/// That a terminal is due, and next starts so many bit times later.
 fn put_late<K: Sink>(text: &mut TextBuffer, sink: &mut K, n: u64)
     ensures { Adds K.held K.faults sink.old sink.new text.old text.new (definition.missing_words (Some n)) }
 {
-    text.put(sink, b" starts ");
+    text.put(sink, b" is due, next start in ");
     put_counted(text, sink, n, b"bit time");
-    text.put(sink, b" later");
 }
 
 /// What a terminal does that doesn't start where it should.

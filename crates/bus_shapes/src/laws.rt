@@ -13,8 +13,8 @@ pub fn marks_are_exact()
     ensures { MarksAreExact }
 {}
 
-/// Where a heading says that a terminal starts so many bit times later than it should, it starts then and not between; and where it says
-/// that it doesn't start, it doesn't from there on.
+/// Where a heading says that a terminal is due, and in how many bit times its next start is, it starts then and not between; and where it
+/// says that it doesn't start, it doesn't from there on.
 pub fn late_starts_are_next()
     ensures later { LaterIsNext }
     ensures none { NoneIsLater }

@@ -1,5 +1,5 @@
 //! What pictures tell of each transmission of a list, in one walk over it.
-ghost use Rattle.std.specs.Prelude.{◌≡◌};
+ghost use Rattle.std.specs.Prelude.{◌≡◌, IfOk};
 ghost use Rattle.std.specs.Iterator.{YieldsFirst, item_count};
 ghost use Rattle.bus_strings.specs.Transmissions.{IsByMoment};
 ghost use Rattle.bus_shapes.specs.Sending.{sents};
@@ -7,6 +7,7 @@ ghost use Rattle.bus_shapes.specs.Sending.{sents};
 use crate::sent::Sent;
 use bus_strings::limits::TERMINALS;
 use bus_strings::{Marks, Transmission};
+use std::alloc::{AllocError, Global};
 use std::marker::Model;
 
 /// What pictures tell of each transmission of a list, in order. It goes over the list once.
@@ -77,4 +78,13 @@ impl<'a> Iterator for Sents<'a> {
         self.at += 1;
         Some(sent)
     }
+}
+
+/// What pictures tell of each transmission of a list, in order, for who asks more than once. The list has to be ordered by moment. Fails
+/// only where memory runs out.
+pub fn all_sents(alloc: Global, list: &[Transmission]) -> Result<Vec<Sent>, AllocError>
+    requires { IsByMoment list.now }
+    ensures { IfOk result (λ told. told.items ≡ sents list.now) }
+{
+    Sents::new(list).collect(alloc)
 }
