@@ -7,7 +7,7 @@ use Rattle.bus_shapes.specs.declared.scale.Scale.{Scale}
 use Rattle.bus_strings.specs.Members.{In}
 use Rattle.bus_picture.specs.Boxes.{Pile, is_thin, pile_height, share_height}
 use Rattle.bus_picture.specs.Laws.{BoxesLieInRows, BreachesHideNoBox, IntervalWordsHideNoBox}
-use Rattle.bus_picture.specs.Measures.{plot_top, row_height}
+use Rattle.bus_picture.specs.declared.measures.TheConstants.{PLOT_TOP as plot_top, ROW_HEIGHT as row_height}
 use Rattle.bus_picture.specs.Rows.{Row}
 use Rattle.bus_picture.specs.TimeLines.{each_lane, lane_rows, rows_of}
 

@@ -25,7 +25,7 @@ use Rattle.bus_picture.specs.Rows.{Row, is_of, shown, shows}
 use Rattle.bus_picture.specs.Lanes.{drawn_lanes, has_some, is_in, is_named, lanes_with_some, most_empty}
 use Rattle.bus_picture.specs.Strings.{meets}
 use Rattle.bus_picture.specs.TimeLines.{bus_rows, each_lane, is_shown, lane_rows, lane_top, lanes_in, rows_at, rows_of_lanes}
-use Rattle.bus_picture.specs.Measures.{plot_top, row_height}
+use Rattle.bus_picture.specs.declared.measures.TheConstants.{PLOT_TOP as plot_top, ROW_HEIGHT as row_height}
 use Rattle.bus_picture.specs.Laws.{AreCounted, AreUncovered, BusIsCounted, EachIsInOneLane, EachIsOnTheBus, GarbledAreUncovered, IsSilent, LanesAreCounted, LeftOutAreSilent, in_boxes, rows_with}
 use Rattle.bus_picture.proofs.LawLemmas.{as_row, boxes_hold_rows}
 

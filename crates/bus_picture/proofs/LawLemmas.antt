@@ -23,10 +23,10 @@ use Rattle.bus_picture.specs.Rows.{Row, box_class, garbled_class, is_of, plain_c
 use Rattle.bus_picture.specs.Strings.{meets}
 use Rattle.bus_picture.specs.Laws.{AreClose, BoxesCoverNoQuiet, BoxesHoldRows, BoxesHoldTheirs, HatchedAreGarbled, HoldsIts}
 
-abbrev single : Sent → Box
+abbrev pub single : Sent → Box
 single x = record { first = x; others = [] }
 
-abbrev longer : Box → Sent → Box
+abbrev pub longer : Box → Sent → Box
 longer box y = record { first = box.first; others = box.others ++ y ∷ [] }
 
 -- ---- each is in one box
@@ -48,7 +48,7 @@ pub boxes_hold_rows : BoxesHoldRows
 boxes_hold_rows scale row list = all_held scale (shown scale row list)
 
 -- ---- hatched boxes
-in_flat : (bs : List Box) (box : Box) (x : Sent) → In box bs → In x (members box) → In x (flat_map members bs)
+pub in_flat : (bs : List Box) (box : Box) (x : Sent) → In box bs → In x (members box) → In x (flat_map members bs)
 in_flat [] box x i j = absurd i
 in_flat (b ∷ bs) box x (inl same) j = in_append_left (members b) (flat_map members bs) x (subst (λ (b : Box). In x (members b)) same j)
 in_flat (b ∷ bs) box x (inr i) j = in_append_right (members b) (flat_map members bs) x (in_flat bs box x i j)

@@ -22,3 +22,6 @@ pub mod StartLemmas
 pub mod OffsetLemmas
 pub mod FaultLemmas
 pub mod FaultLawLemmas
+pub mod KindLemmas
+pub mod ShownLemmas
+pub mod LegendLemmas

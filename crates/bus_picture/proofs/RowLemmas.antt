@@ -1,7 +1,7 @@
 -- The boxes of a row, one behind the other.
-use Rattle.std.proofs.Common.{◌≡◌, ℕ, suc, ◌+◌, ◌≤◌, Bool, true, false, cond, List, [], ◌∷◌, ◌++◌, length, filter, Option, Some, None, append-nil, arith, refl, sym, ap, subst, ◌∙◌}
+use Rattle.std.proofs.Common.{◌≡◌, ℕ, suc, ◌+◌, ◌<◌, ◌≤◌, Bool, true, false, cond, List, [], ◌∷◌, ◌++◌, length, filter, drop, drop-cons, get_or, Option, Some, None, append-nil, arith, refl, sym, ap, subst, ◌∙◌}
 use Rattle.std.specs.List.{AllByRecursion, flat_map}
-use Rattle.std.proofs.lemmas.List.{append_assoc}
+use Rattle.std.proofs.lemmas.List.{append_assoc, drop_all}
 use Rattle.std.proofs.lemmas.List.Sums.{fold-append}
 use Rattle.bus_strings.specs.Messages.{Entry}
 use Rattle.bus_table.specs.Tables.{Table}
@@ -143,3 +143,30 @@ pub ended : (text : List ℕ → Type 0) (scale : Scale) (table : Table) (row : 
     → (w : Writing text scale table row list last left) → left ≡ [] → w.done ++ last_written scale table row list last ≡ row_text scale table row list
 ended text scale table row list last left w is =
     ap (λ (xs : List Sent). w.done ++ to_come scale table row list last xs) (sym is) ∙ w.rest ∙ whole_row scale table row list
+
+-- ---- what is told of a list, one after another
+pub next_left : (told : List Sent) (i : ℕ) (d : Sent) → i < length told → drop i told ≡ get_or told i d ∷ drop (i + 1) told
+next_left told i d within =
+    let e : suc i ≡ i + 1 = omega arith in
+    drop-cons told i d within ∙ ap (λ k. get_or told i d ∷ drop k told) e
+
+pub none_left : (told : List Sent) (i : ℕ) → length told ≤ i → drop i told ≡ []
+none_left told i past = drop_all i told past
+
+-- the next is shown
+pub took_shown : (text text' : List ℕ → Type 0) (scale : Scale) (table : Table) (row : Row) (list : List Entry) (last last' : Option Pile) (x : Sent) (left xs : List Sent)
+    → (w : Writing text scale table row list last left) → left ≡ x ∷ xs → shows scale row x ≡ true → last' ≡ Some (with_next scale last x)
+    → text' (w.done ++ written scale table row list last x) → Writing text' scale table row list last' xs
+took_shown text text' scale table row list last last' x left xs w is shown next adds =
+    took text text' scale table row list last last' x left xs w is
+    (next ∙ sym (ap (λ b. cond b (Some (with_next scale last x)) last) shown))
+    (subst (λ t. text' (w.done ++ t)) (sym (ap (λ b. cond b (written scale table row list last x) []) shown)) adds)
+
+-- or it isn't
+pub took_passed : (text text' : List ℕ → Type 0) (scale : Scale) (table : Table) (row : Row) (list : List Entry) (last last' : Option Pile) (x : Sent) (left xs : List Sent)
+    → (w : Writing text scale table row list last left) → left ≡ x ∷ xs → shows scale row x ≡ false → last' ≡ last → text' w.done
+    → Writing text' scale table row list last' xs
+took_passed text text' scale table row list last last' x left xs w is passed next adds =
+    took text text' scale table row list last last' x left xs w is
+    (next ∙ sym (ap (λ b. cond b (Some (with_next scale last x)) last) passed))
+    (subst text' (sym (ap (λ b. w.done ++ cond b (written scale table row list last x) []) passed ∙ append-nil w.done)) adds)

@@ -60,7 +60,7 @@ module _ (q sg n : ℕ) (p : List Entry) (h : Hearing) (x : Entry) (known : Hear
     moment = sym (fold-append (λ t (y : Entry). y.moment) 0 p (x ∷ []));
   }
 
-within_list : (k : ℕ) (list : List Entry) (x : Entry) → slice_get list k ≡ Some x → k < length list
+pub within_list : (k : ℕ) (list : List Entry) (x : Entry) → slice_get list k ≡ Some x → k < length list
 within_list k [] x at = absurd (let h : None ≡ Some x = at in cc)
 within_list zero (y ∷ list) x at = omega arith
 within_list (suc k) (y ∷ list) x at = omega (arith, within_list k list x at)
@@ -78,7 +78,7 @@ hears_next q sg n k list h x rises at known =
     (hears_before q sg n (take k list) h x known order, subst (λ (l : List Entry). Hears q sg n l (hear q sg n h x)) (sym (take_next k list x at)) (hears_more q sg n (take k list) h x known order))
 
 -- ---- what is written
-told_push : (list : List Entry) (j : ℕ) (xs : List Entry) (x : Entry)
+pub told_push : (list : List Entry) (j : ℕ) (xs : List Entry) (x : Entry)
     → sents_from list j (xs ++ x ∷ []) ≡ sents_from list j xs ++ sent_of list (j + length xs) x ∷ []
 told_push list j [] x = ap (λ k. sent_of list k x ∷ []) (let z : j ≡ j + 0 = omega arith in z)
 told_push list j (y ∷ xs) x =

@@ -1,7 +1,6 @@
 -- The stroke of a box lies within its area.
-use Rattle.std.proofs.Common.{◌≡◌, ℕ, ◌+◌, ◌*◌, ◌-◌, ◌<◌, ◌≤◌, Bool, true, false, cond, max, List, [], ◌∷◌, fold, Option, Some, None, inl, inr, arith, refl, sym, ap, ◌∙◌}
-use Rattle.std.specs.Prelude.{nat_lt}
-use Rattle.std.proofs.lemmas.Bool.{cases_Bool, le-ltb, ltb-false}
+use Rattle.std.proofs.Common.{◌≡◌, ℕ, ◌+◌, ◌*◌, ◌≤◌, Bool, true, false, cond, List, [], ◌∷◌, fold, Option, Some, None, arith, refl, ap, ◌∙◌}
+use Rattle.std.proofs.lemmas.Bool.{le-ltb, ltb-false}
 use Rattle.bus_shapes.specs.declared.area.Area.{Area}
 use Rattle.bus_shapes.specs.declared.scale.Scale.{Scale}
 use Rattle.bus_shapes.specs.declared.sent.Sent.{Sent}
@@ -9,7 +8,7 @@ use Rattle.bus_shapes.specs.Scales.{IsScale, extent, place}
 use Rattle.bus_shapes.proofs.ScaleLemmas.{place_rises}
 use Rattle.bus_picture.specs.Boxes.{Box, Pile, grown, is_narrow, is_thin, one, pile_height, pile_of, share_height}
 use Rattle.bus_picture.specs.Laws.{StrokesLieWithin, with_stroke}
-use Rattle.bus_picture.specs.Rows.{Row, box_area, drawn_area, inset, overhang, plain_overhang}
+use Rattle.bus_picture.specs.Rows.{Row, box_area, inset, overhang, plain_overhang}
 
 no_earlier : (pile : Pile) (xs : List Sent) → pile.end ≤ (fold grown pile xs).end
 no_earlier pile [] = omega arith

@@ -1,5 +1,5 @@
 -- Behind the last end of a list there is no carrier.
-use Rattle.std.proofs.Common.{◌≡◌, ℕ, zero, suc, ◌+◌, ◌-◌, ◌<◌, ◌≤◌, Bool, true, false, cond, max, List, [], ◌∷◌, ◌++◌, fold, inl, inr, arith, refl, sym, ap, subst, ◌∙◌}
+use Rattle.std.proofs.Common.{◌≡◌, ℕ, zero, suc, ◌+◌, ◌-◌, ◌<◌, ◌≤◌, Bool, false, cond, max, List, [], ◌∷◌, ◌++◌, fold, inl, inr, arith, refl, sym, ap, ◌∙◌}
 use Rattle.std.specs.Prelude.{nat_lt}
 use Rattle.std.specs.List.{count_by, range_with_len, sum_by}
 use Rattle.std.proofs.lemmas.Bool.{and_parts, ltb-true}
@@ -9,9 +9,7 @@ use Rattle.bus_strings.specs.Members.{In}
 use Rattle.bus_strings.specs.Messages.{Entry}
 use Rattle.bus_strings.specs.Transmissions.{carrier, end_of}
 use Rattle.bus_medium.proofs.PastLaws.{no_carrier}
-use Rattle.bus_shapes.specs.declared.scale.Scale.{Scale}
 use Rattle.bus_picture.specs.Laws.{TailsAreQuiet}
-use Rattle.bus_picture.specs.Loads.{bus_bits, goes_on, up_to}
 
 abbrev end_from : ℕ → List Entry → ℕ
 end_from e xs = fold (λ end (x : Entry). max end (end_of x)) e xs

@@ -9,7 +9,7 @@ use Rattle.bus_shapes.specs.declared.scale.Scale.{Scale}
 use Rattle.bus_shapes.specs.Scales.{extent, place}
 pub use Rattle.bus_picture.specs.declared.pile.Pile.{Pile}
 use Rattle.bus_shapes.specs.Measures.{pixel}
-use Rattle.bus_picture.specs.Measures.{box_height, least_height, narrow}
+use Rattle.bus_picture.specs.declared.measures.TheConstants.{BOX_HEIGHT as box_height, LEAST_HEIGHT as least_height, NARROW as narrow}
 
 -- ---- which transmissions share a box
 -- Whether a transmission takes less than a pixel.

@@ -17,7 +17,9 @@ use Rattle.bus_shapes.specs.Scales.{place}
 use Rattle.bus_shapes.specs.Shapes.{box_text, titled_text, words_text}
 use Rattle.bus_picture.specs.Lanes.{each_lane, lane_top}
 use Rattle.bus_picture.specs.Marks.{above_text, breach_text, dashes_text, head_dash, lower_dash, upper_dash, words_middle}
-use Rattle.bus_picture.specs.Measures.{breach_width, fault_beside, fault_line, fault_most, line_width, plot_top}
+use Rattle.bus_picture.specs.declared.measures.TheConstants.{BREACH_WIDTH as breach_width, FAULT_BESIDE as fault_beside}
+use Rattle.bus_picture.specs.declared.measures.TheConstants.{FAULT_LINE as fault_line, FAULT_MOST as fault_most, LINE_WIDTH as line_width}
+use Rattle.bus_picture.specs.declared.measures.TheConstants.{PLOT_TOP as plot_top}
 use Rattle.bus_picture.specs.Strings.{has_moment}
 use Rattle.bus_picture.specs.Timers.{is_near}
 pub use Rattle.bus_picture.specs.declared.fault.Fault.{Fault}

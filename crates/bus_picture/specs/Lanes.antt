@@ -8,7 +8,7 @@ use Rattle.bus_dump.specs.declared.lane.Lane.{Lane}
 use Rattle.bus_shapes.specs.declared.scale.Scale.{Scale}
 use Rattle.bus_shapes.specs.declared.told.Told.{Told}
 use Rattle.bus_shapes.specs.declared.told.Told.TheVariants.{Audit, OnCable, Findings}
-use Rattle.bus_picture.specs.Measures.{plot_top, row_height}
+use Rattle.bus_picture.specs.declared.measures.TheConstants.{PLOT_TOP as plot_top, ROW_HEIGHT as row_height}
 use Rattle.bus_picture.specs.Strings.{meets}
 
 -- ---- where they are

@@ -27,7 +27,9 @@ use Rattle.bus_picture.specs.Strings.{meets}
 use Rattle.bus_picture.specs.TimeLines.{bus_rows, counts_of, is_shown, lanes_in, rows_of, rows_of_lanes}
 use Rattle.bus_picture.specs.Marks.{head_dash, lower_dash, upper_dash}
 use Rattle.bus_picture.specs.Lanes.{lane_top}
-use Rattle.bus_picture.specs.Measures.{breach_line, interval_depth, interval_line, interval_rise, plot_top, row_height, words_depth}
+use Rattle.bus_picture.specs.declared.measures.TheConstants.{BREACH_LINE as breach_line, INTERVAL_LINE as interval_line}
+use Rattle.bus_picture.specs.declared.measures.TheConstants.{PLOT_TOP as plot_top, ROW_HEIGHT as row_height}
+use Rattle.bus_picture.specs.Measures.{interval_depth, interval_rise, words_depth}
 
 -- ---- boxes
 -- The transmissions of the boxes of a row, one after the other, are those that the row shows, in order: so each of these is in exactly one

@@ -1,157 +1,31 @@
--- The legend of a time line, and its measures in units of a tenth of a pixel.
+-- The legend of a time line. Its measures are constants of the crate, in units of a tenth of a pixel.
 use Rattle.std.specs.Prelude.{ℕ, ◌+◌, ◌-◌, Bool, List, [], ◌++◌, codes, if◌then◌else◌}
 use Rattle.bus_shapes.specs.declared.class.Class.{Class}
 use Rattle.bus_shapes.specs.declared.class.Class.TheVariants.{Gap, Garbled, Interval, Mark, Noise, Overlap, Small, Unobserved}
 use Rattle.bus_shapes.specs.declared.class.Class.TheVariants as classes
 use Rattle.bus_shapes.specs.Shapes.{box_text, words_text}
-use Rattle.bus_table.specs.declared.mode.Mode.{Mode}
-use Rattle.bus_table.specs.declared.mode.Mode.TheVariants.{Aperiodic, Periodic}
-use Rattle.bus_picture.specs.Measures.{line_height, offset_height, offset_width}
-
--- ---- measures
--- How far below the first row of the legend the second lies.
-abbrev pub legend_row : ℕ
-legend_row = 260
-
--- How far below the upper edge of a box of the legend its words stand.
-abbrev pub legend_words : ℕ
-legend_words = 120
-
--- The height of a sample of a box.
-abbrev pub sample_height : ℕ
-sample_height = 180
-
--- How far below the upper edge of a sample the box in it begins.
-abbrev pub inner_below : ℕ
-inner_below = 30
-
--- The height of the box in a sample.
-abbrev pub inner_height : ℕ
-inner_height = 120
-
--- How far below the upper edge of a sample a line lies.
-abbrev pub line_below : ℕ
-line_below = 83
-
--- Where the sample of a message begins.
-abbrev pub message_left : ℕ
-message_left = 1500
-
--- Its width.
-abbrev pub message_width : ℕ
-message_width = 700
-
--- Where its first wordstring begins.
-abbrev pub first_left : ℕ
-first_left = 1540
-
--- Where its second wordstring begins.
-abbrev pub second_left : ℕ
-second_left = 1900
-
--- The width of a wordstring in it.
-abbrev pub string_width : ℕ
-string_width = 260
-
--- Where the words on messages begin.
-abbrev pub message_words : ℕ
-message_words = 2280
-
--- Where the sample of a garbled message begins.
-abbrev pub garbled_left : ℕ
-garbled_left = 6400
-
--- Its width.
-abbrev pub garbled_width : ℕ
-garbled_width = 500
-
--- Where its wordstring begins.
-abbrev pub noise_left : ℕ
-noise_left = 6440
-
--- The width of that.
-abbrev pub noise_width : ℕ
-noise_width = 420
-
--- Where the words on garbled messages begin.
-abbrev pub garbled_words : ℕ
-garbled_words = 6980
-
--- The width of the samples behind these.
-abbrev pub column_width : ℕ
-column_width = 300
-
--- Where the sample of a tint begins.
-abbrev pub overlap_left : ℕ
-overlap_left = 7700
-
--- Where the words on it begin.
-abbrev pub overlap_words : ℕ
-overlap_words = 8080
-
--- Where the sample of what lies behind the horizon begins.
-abbrev pub unobserved_left : ℕ
-unobserved_left = 1500
-
--- Where the words on it begin.
-abbrev pub unobserved_words : ℕ
-unobserved_words = 1880
-
--- Where the sample of a gap begins.
-abbrev pub gap_left : ℕ
-gap_left = 3200
-
--- Where the words on gaps begin.
-abbrev pub gap_words : ℕ
-gap_words = 3580
-
--- Where the sample of a transmit interval begins.
-abbrev pub interval_left : ℕ
-interval_left = 4550
-
--- Where the words on transmit intervals begin.
-abbrev pub interval_words : ℕ
-interval_words = 4930
-
--- Where the sample of the tick of an offset begins.
-abbrev pub tick_left : ℕ
-tick_left = 6400
-
--- How far below the upper edge of a sample it begins.
-abbrev pub sample_tick_below : ℕ
-sample_tick_below = 67
-
--- Where the words on offsets begin.
-abbrev pub offset_words : ℕ
-offset_words = 6480
-
--- The width of a box of the legend of heights.
-abbrev pub share_width : ℕ
-share_width = 60
-
--- Where the one begins that is busy all the time.
-abbrev pub whole_left : ℕ
-whole_left = 7700
-
--- Where the one begins that is busy for a quarter of it.
-abbrev pub quarter_left : ℕ
-quarter_left = 7800
-
--- Its height.
-abbrev pub quarter_height : ℕ
-quarter_height = 90
-
--- Where the one begins that is busy for a sixteenth of it.
-abbrev pub sixteenth_left : ℕ
-sixteenth_left = 7900
-
--- Its height.
-abbrev pub sixteenth_height : ℕ
-sixteenth_height = 45
-
--- Where the words on heights begin.
-abbrev pub shares_words : ℕ
-shares_words = 8080
+use Rattle.bus_picture.specs.declared.kinds.Kinds.{Kinds}
+use Rattle.bus_picture.specs.declared.measures.TheConstants.{LINE_HEIGHT as line_height, OFFSET_HEIGHT as offset_height}
+use Rattle.bus_picture.specs.declared.measures.TheConstants.{OFFSET_WIDTH as offset_width}
+use Rattle.bus_picture.specs.declared.between.TheConstants.{LINE_BELOW as line_below, UNOBSERVED_LEFT as unobserved_left}
+use Rattle.bus_picture.specs.declared.between.TheConstants.{UNOBSERVED_WORDS as unobserved_words, GAP_LEFT as gap_left}
+use Rattle.bus_picture.specs.declared.between.TheConstants.{GAP_WORDS as gap_words, INTERVAL_LEFT as interval_left}
+use Rattle.bus_picture.specs.declared.between.TheConstants.{INTERVAL_WORDS as interval_words, TICK_LEFT as tick_left}
+use Rattle.bus_picture.specs.declared.between.TheConstants.{SAMPLE_TICK_BELOW as sample_tick_below, OFFSET_WORDS as offset_words}
+use Rattle.bus_picture.specs.declared.heights.TheConstants.{SHARE_WIDTH as share_width, WHOLE_LEFT as whole_left}
+use Rattle.bus_picture.specs.declared.heights.TheConstants.{QUARTER_LEFT as quarter_left, QUARTER_HEIGHT as quarter_height}
+use Rattle.bus_picture.specs.declared.heights.TheConstants.{SIXTEENTH_LEFT as sixteenth_left, SIXTEENTH_HEIGHT as sixteenth_height}
+use Rattle.bus_picture.specs.declared.heights.TheConstants.{SHARES_WORDS as shares_words}
+use Rattle.bus_picture.specs.declared.legend.TheConstants.{LEGEND_ROW as legend_row, LEGEND_WORDS as legend_words}
+use Rattle.bus_picture.specs.declared.legend.TheConstants.{SAMPLE_HEIGHT as sample_height, INNER_BELOW as inner_below}
+use Rattle.bus_picture.specs.declared.legend.TheConstants.{INNER_HEIGHT as inner_height, MESSAGE_LEFT as message_left}
+use Rattle.bus_picture.specs.declared.legend.TheConstants.{MESSAGE_WIDTH as message_width, FIRST_LEFT as first_left}
+use Rattle.bus_picture.specs.declared.legend.TheConstants.{SECOND_LEFT as second_left, STRING_WIDTH as string_width}
+use Rattle.bus_picture.specs.declared.legend.TheConstants.{MESSAGE_WORDS as message_words, GARBLED_LEFT as garbled_left}
+use Rattle.bus_picture.specs.declared.legend.TheConstants.{GARBLED_WIDTH as garbled_width, NOISE_LEFT as noise_left}
+use Rattle.bus_picture.specs.declared.legend.TheConstants.{NOISE_WIDTH as noise_width, GARBLED_WORDS as garbled_words}
+use Rattle.bus_picture.specs.declared.legend.TheConstants.{COLUMN_WIDTH as column_width, OVERLAP_LEFT as overlap_left}
+use Rattle.bus_picture.specs.declared.legend.TheConstants.{OVERLAP_WORDS as overlap_words}
 
 -- ---- the legend
 -- A box of the legend, of a class.
@@ -174,64 +48,94 @@ sample_line class left top = legend_box class left (top + line_below) column_wid
 abbrev pub sample_words : ℕ → ℕ → List ℕ → List ℕ
 sample_words left top words = words_text Small left (top + legend_words) words
 
--- What the legend says of messages and their wordstrings.
-abbrev pub legend_message : ℕ → List ℕ
-legend_message top =
+-- A message and two wordstrings of it, with what these are.
+abbrev pub message_sample : ℕ → List ℕ
+message_sample top =
     sample_box classes.Message message_left top message_width ++ inner_box classes.Wordstring first_left top string_width
     ++ inner_box classes.Wordstring second_left top string_width
     ++ sample_words message_words top (codes "a message and its wordstrings: label, extension, +data words")
 
--- What it says of garbled messages.
-abbrev pub legend_garbled : ℕ → List ℕ
-legend_garbled top =
+-- What the legend says of messages and their wordstrings, where one is shown.
+abbrev pub legend_message : Bool → ℕ → List ℕ
+legend_message there top = if there then message_sample top else []
+
+-- A garbled message, with what it is.
+abbrev pub garbled_sample : ℕ → List ℕ
+garbled_sample top =
     sample_box Garbled garbled_left top garbled_width ++ inner_box Noise noise_left top noise_width
     ++ sample_words garbled_words top (codes "garbled")
 
+-- What it says of garbled messages, where one is shown.
+abbrev pub legend_garbled : Bool → ℕ → List ℕ
+legend_garbled there top = if there then garbled_sample top else []
+
+-- A tint, with what it is.
+abbrev pub tint_sample : ℕ → List ℕ
+tint_sample top = sample_box Overlap overlap_left top column_width ++ sample_words overlap_words top (codes "two or more at once")
+
 -- What it says of tints, where there is one.
 abbrev pub legend_tint : Bool → ℕ → List ℕ
-legend_tint tinted top =
-    if tinted then sample_box Overlap overlap_left top column_width ++ sample_words overlap_words top (codes "two or more at once")
-    else []
+legend_tint there top = if there then tint_sample top else []
 
--- What it says of what lies behind the horizon.
-abbrev pub legend_horizon : ℕ → List ℕ
-legend_horizon top =
+-- What lies behind the horizon, with what it is.
+abbrev pub horizon_sample : ℕ → List ℕ
+horizon_sample top =
     sample_box Unobserved unobserved_left top column_width ++ sample_words unobserved_words top (codes "behind the horizon")
 
--- What it says of timers.
-abbrev pub legend_timers : ℕ → List ℕ
-legend_timers top =
-    sample_line Gap gap_left top ++ sample_words gap_words top (codes "gap: SG, TG")
-    ++ sample_line Interval interval_left top ++ sample_words interval_words top (codes "transmit interval: TI")
+-- What it says of what lies behind the horizon, where the window goes on there.
+abbrev pub legend_horizon : Bool → ℕ → List ℕ
+legend_horizon there top = if there then horizon_sample top else []
 
--- What it says of where senders should start, which a table tells in periodic mode alone.
-abbrev pub legend_offsets : Mode → ℕ → List ℕ
-legend_offsets Aperiodic top = []
-legend_offsets Periodic top =
+-- The line of a gap, with what it is.
+abbrev pub gap_sample : ℕ → List ℕ
+gap_sample top = sample_line Gap gap_left top ++ sample_words gap_words top (codes "gap: SG, TG")
+
+-- What it says of gaps, where the line of one is drawn.
+abbrev pub legend_gaps : Bool → ℕ → List ℕ
+legend_gaps there top = if there then gap_sample top else []
+
+-- The line of a transmit interval, with what it is.
+abbrev pub interval_sample : ℕ → List ℕ
+interval_sample top = sample_line Interval interval_left top ++ sample_words interval_words top (codes "transmit interval: TI")
+
+-- What it says of transmit intervals, where the line of one is drawn.
+abbrev pub legend_intervals : Bool → ℕ → List ℕ
+legend_intervals there top = if there then interval_sample top else []
+
+-- The tick of an offset, with what it is.
+abbrev pub tick_sample : ℕ → List ℕ
+tick_sample top =
     legend_box Mark tick_left (top + sample_tick_below) offset_width offset_height
     ++ sample_words offset_words top (codes "offset: AT")
+
+-- What it says of where senders should start, where a tick is drawn.
+abbrev pub legend_offsets : Bool → ℕ → List ℕ
+legend_offsets there top = if there then tick_sample top else []
 
 -- A box of the legend of heights, whose lower edge is that of a sample.
 abbrev pub share_box : ℕ → ℕ → ℕ → List ℕ
 share_box left top height = legend_box classes.Wordstring left (top + (sample_height - height)) share_width height
 
--- What it says of the heights of boxes of what takes less than a pixel, where there is one: their square is the share that is busy.
-abbrev pub legend_shares : Bool → ℕ → List ℕ
-legend_shares thin top =
-    if thin
-    then share_box whole_left top sample_height ++ share_box quarter_left top quarter_height
+-- Three heights of boxes of what takes less than a pixel, with what they are: their square is the share that is busy.
+abbrev pub shares_sample : ℕ → List ℕ
+shares_sample top =
+    share_box whole_left top sample_height ++ share_box quarter_left top quarter_height
     ++ share_box sixteenth_left top sixteenth_height ++ sample_words shares_words top (codes "low boxes: busy 1/1, 1/4, 1/16")
-    else []
 
--- Its first row: what boxes mean, of a picture with tints or without.
-abbrev pub legend_boxes : Bool → ℕ → List ℕ
-legend_boxes tinted top = legend_message top ++ legend_garbled top ++ legend_tint tinted top
+-- What it says of heights, where there is such a box.
+abbrev pub legend_shares : Bool → ℕ → List ℕ
+legend_shares there top = if there then shares_sample top else []
 
--- Its second row: what is drawn behind and between boxes, and how high these are.
-abbrev pub legend_between : Mode → Bool → ℕ → List ℕ
-legend_between mode thin top = legend_horizon top ++ legend_timers top ++ legend_offsets mode top ++ legend_shares thin top
+-- Its first row: what boxes and tints mean, of each kind that the picture has.
+abbrev pub legend_boxes : Kinds → ℕ → List ℕ
+legend_boxes kinds top = legend_message kinds.messages top ++ legend_garbled kinds.garbled top ++ legend_tint kinds.tints top
 
--- The legend of a picture of a table in this mode, with tints or without, with boxes of what takes less than a pixel or without, whose
--- first row has this upper edge.
-abbrev pub legend_text : Mode → Bool → Bool → ℕ → List ℕ
-legend_text mode tinted thin top = legend_boxes tinted top ++ legend_between mode thin (top + legend_row)
+-- Its second row: what is drawn behind and between boxes, and how high these are, of each kind that the picture has.
+abbrev pub legend_between : Kinds → ℕ → List ℕ
+legend_between kinds top =
+    legend_horizon kinds.unobserved top ++ legend_gaps kinds.gaps top ++ legend_intervals kinds.intervals top
+    ++ legend_offsets kinds.offsets top ++ legend_shares kinds.thin top
+
+-- The legend of a picture that has these kinds of marks, whose first row has this upper edge.
+abbrev pub legend_text : Kinds → ℕ → List ℕ
+legend_text kinds top = legend_boxes kinds top ++ legend_between kinds (top + legend_row)

@@ -9,6 +9,7 @@ pub mod Gaps
 pub mod Intervals
 pub mod Offsets
 pub mod Timers
+pub mod Kinds
 pub mod Legends
 pub mod Lanes
 pub mod Marks
@@ -22,4 +23,5 @@ pub mod TintLaws
 pub mod TakingLaws
 pub mod OffsetLaws
 pub mod FaultLaws
+pub mod LegendLaws
 pub mod inside

@@ -15,7 +15,8 @@ use Rattle.bus_shapes.specs.Numbers as numbers
 use Rattle.bus_shapes.specs.Sending.{is_of}
 use Rattle.bus_shapes.specs.Shapes.{words_text}
 use Rattle.bus_picture.specs.Lanes.{each_lane, lane_top}
-use Rattle.bus_picture.specs.Measures.{bus_line, load_left, plot_top, tail_line, terminal_line}
+use Rattle.bus_picture.specs.declared.measures.TheConstants.{BUS_LINE as bus_line, LOAD_LEFT as load_left, PLOT_TOP as plot_top}
+use Rattle.bus_picture.specs.declared.measures.TheConstants.{TAIL_LINE as tail_line, TERMINAL_LINE as terminal_line}
 
 -- ---- how many bit times
 -- How many bit times a stretch has in common with the scale.

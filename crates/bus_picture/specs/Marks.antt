@@ -12,8 +12,11 @@ use Rattle.bus_shapes.specs.declared.scale.Scale.{Scale}
 use Rattle.bus_shapes.specs.Scales.{place}
 use Rattle.bus_shapes.specs.Shapes.{box_text, words_text}
 use Rattle.bus_picture.specs.Lanes.{each_lane, lane_top}
-use Rattle.bus_picture.specs.Measures.{box_below, box_height, breach_line, breach_width, head_height, head_top, line_width, plot_top}
-use Rattle.bus_picture.specs.Measures.{row_height, words_least, words_most}
+use Rattle.bus_picture.specs.declared.measures.TheConstants.{BOX_BELOW as box_below, BOX_HEIGHT as box_height, BREACH_LINE as breach_line}
+use Rattle.bus_picture.specs.declared.measures.TheConstants.{BREACH_WIDTH as breach_width, HEAD_HEIGHT as head_height}
+use Rattle.bus_picture.specs.declared.measures.TheConstants.{HEAD_TOP as head_top, LINE_WIDTH as line_width, PLOT_TOP as plot_top}
+use Rattle.bus_picture.specs.declared.measures.TheConstants.{ROW_HEIGHT as row_height, WORDS_LEAST as words_least}
+use Rattle.bus_picture.specs.declared.measures.TheConstants.{WORDS_MOST as words_most}
 use Rattle.bus_picture.specs.Strings.{has_moment}
 
 -- ---- where it is

@@ -9,7 +9,8 @@ use Rattle.bus_shapes.specs.Scales.{place}
 use Rattle.bus_shapes.specs.Shapes.{box_text}
 use Rattle.bus_table.specs.declared.mode.Mode.{Mode}
 use Rattle.bus_table.specs.declared.mode.Mode.TheVariants.{Aperiodic, Periodic}
-use Rattle.bus_picture.specs.Measures.{offset_height, offset_width, tick_below}
+use Rattle.bus_picture.specs.declared.measures.TheConstants.{OFFSET_HEIGHT as offset_height, OFFSET_WIDTH as offset_width}
+use Rattle.bus_picture.specs.declared.measures.TheConstants.{TICK_BELOW as tick_below}
 
 -- The start of round k, of a sender with this offset.
 abbrev pub offset_moment : ℕ → ℕ → ℕ → ℕ

@@ -8,7 +8,8 @@ use Rattle.bus_shapes.specs.declared.scale.Scale.{Scale}
 use Rattle.bus_shapes.specs.Shapes.{words_text}
 use Rattle.bus_dump.specs.declared.lane.Lane.{Lane}
 use Rattle.bus_picture.specs.Lanes.{each_lane, lane_top}
-use Rattle.bus_picture.specs.Measures.{bus_line, pace_left, plot_top, terminal_line}
+use Rattle.bus_picture.specs.declared.measures.TheConstants.{BUS_LINE as bus_line, PACE_LEFT as pace_left, PLOT_TOP as plot_top}
+use Rattle.bus_picture.specs.declared.measures.TheConstants.{TERMINAL_LINE as terminal_line}
 use Rattle.bus_picture.specs.Strings.{has_moment}
 pub use Rattle.bus_picture.specs.declared.pace.Pace.{Pace}
 

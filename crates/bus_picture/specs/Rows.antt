@@ -18,7 +18,8 @@ use Rattle.bus_shapes.specs.Shapes.{titled_text}
 use Rattle.bus_picture.specs.Boxes.{Pile, boxes, is_narrow, pile_height, pile_of, pile_words}
 use Rattle.bus_picture.specs.Strings.{meets, strings_text}
 pub use Rattle.bus_picture.specs.declared.row.Row.{Row}
-use Rattle.bus_picture.specs.Measures.{box_below, box_height, garbled_overhang, message_overhang}
+use Rattle.bus_picture.specs.declared.measures.TheConstants.{BOX_BELOW as box_below, BOX_HEIGHT as box_height}
+use Rattle.bus_picture.specs.declared.measures.TheConstants.{GARBLED_OVERHANG as garbled_overhang, MESSAGE_OVERHANG as message_overhang}
 
 -- Whether a transmission is of the terminal of the row, or any where it is that of the bus.
 abbrev pub is_of : Row → Sent → Bool

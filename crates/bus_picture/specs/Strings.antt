@@ -18,8 +18,11 @@ use Rattle.bus_shapes.specs.Sayings.{counted}
 use Rattle.bus_shapes.specs.Scales.{extent, place}
 use Rattle.bus_shapes.specs.declared.area.Area.{Area}
 use Rattle.bus_shapes.specs.Shapes.{box_text, titled_text, words_text}
-use Rattle.bus_picture.specs.Measures.{digits_room, edge_width, label_room, long_room}
-use Rattle.bus_picture.specs.Measures.{name_room, string_below, string_height, string_line, word_room}
+use Rattle.bus_picture.specs.declared.measures.TheConstants.{DIGITS_ROOM as digits_room, EDGE_WIDTH as edge_width}
+use Rattle.bus_picture.specs.declared.measures.TheConstants.{LABEL_ROOM as label_room, LONG_ROOM as long_room}
+use Rattle.bus_picture.specs.declared.measures.TheConstants.{NAME_ROOM as name_room, STRING_BELOW as string_below}
+use Rattle.bus_picture.specs.declared.measures.TheConstants.{STRING_HEIGHT as string_height, STRING_LINE as string_line}
+use Rattle.bus_picture.specs.declared.measures.TheConstants.{WORD_ROOM as word_room}
 use Rattle.bus_picture.specs.Takings.{taken_words}
 
 -- Whether what goes from one moment to another meets those of a scale.

@@ -1,7 +1,6 @@
 -- The text of a time line.
-use Rattle.std.specs.Prelude.{ℕ, ◌+◌, ◌-◌, ◌%◌, Bool, true, false, ◌&&◌, nat_eq, nat_lt, List, [], ◌∷◌}
+use Rattle.std.specs.Prelude.{ℕ, ◌+◌, ◌-◌, ◌%◌, Bool, true, false, nat_eq, List, [], ◌∷◌}
 use Rattle.std.specs.Prelude.{◌++◌, length, codes, decimal, Option, Some, None, if◌then◌else◌}
-use Rattle.std.specs.List.{count_by, list_any}
 use Rattle.std.specs.Option.{option_map_or}
 use Rattle.bus_regime.specs.declared.table_verdict.TableVerdict.{TableVerdict}
 use Rattle.bus_table.specs.Fits.{sender_of}
@@ -21,48 +20,32 @@ use Rattle.bus_shapes.specs.declared.class.Class.TheVariants.{Tick, Unobserved}
 use Rattle.bus_shapes.specs.declared.class.Class.TheVariants as classes
 use Rattle.bus_shapes.specs.Frames.{frame_text, tail_text}
 use Rattle.bus_shapes.specs.declared.told.Told.{Told}
-use Rattle.bus_shapes.specs.declared.counts.Counts.{Counts}
-use Rattle.bus_shapes.specs.declared.sent.Sent.{Sent}
 use Rattle.bus_shapes.specs.declared.scale.Scale.{Scale}
 use Rattle.bus_shapes.specs.Scales.{extent, place}
-use Rattle.bus_shapes.specs.Sending.{sents}
 use Rattle.bus_shapes.specs.Shapes.{box_text, titled_text, words_text}
 use Rattle.bus_trace.specs.Windows.{Window}
 pub use Rattle.bus_picture.specs.Lanes.{drawn_lanes, each_lane, lane_top}
-use Rattle.bus_picture.specs.Boxes.{is_thin}
+pub use Rattle.bus_picture.specs.Kinds.{Kinds, counts_of, goes_behind, has_thin, is_shown, is_shown_thin, kinds_of}
 use Rattle.bus_picture.specs.Legends.{legend_text}
 use Rattle.bus_picture.specs.Loads.{loads_text}
 use Rattle.bus_picture.specs.Faults.{told_text}
 use Rattle.bus_picture.specs.Offsets.{offsets_text}
 use Rattle.bus_picture.specs.Paces.{paces_text}
 use Rattle.bus_picture.specs.Rows.{Row, rows_text}
-use Rattle.bus_picture.specs.Strings.{meets}
-use Rattle.bus_picture.specs.Tints.{has_tints, tints_text}
+use Rattle.bus_picture.specs.Tints.{tints_text}
 use Rattle.bus_picture.specs.Timers.{bus_timer, is_near, sender_timers, track_of}
-use Rattle.bus_picture.specs.Measures.{bus_line, foot_height}
-use Rattle.bus_picture.specs.Measures.{left_out_line, legend_below, lower_words, names_right}
-use Rattle.bus_picture.specs.Measures.{plot_left, plot_top, plot_width, row_height, terminal_line, tick_height, timers_line}
-use Rattle.bus_picture.specs.Measures.{upper_ticks, upper_words}
+use Rattle.bus_picture.specs.declared.measures.TheConstants.{BUS_LINE as bus_line, FOOT_HEIGHT as foot_height}
+use Rattle.bus_picture.specs.declared.measures.TheConstants.{LEFT_OUT_LINE as left_out_line, LEGEND_BELOW as legend_below}
+use Rattle.bus_picture.specs.declared.measures.TheConstants.{LOWER_WORDS as lower_words, NAMES_RIGHT as names_right}
+use Rattle.bus_picture.specs.declared.measures.TheConstants.{PLOT_LEFT as plot_left, PLOT_TOP as plot_top, PLOT_WIDTH as plot_width}
+use Rattle.bus_picture.specs.declared.measures.TheConstants.{ROW_HEIGHT as row_height, TERMINAL_LINE as terminal_line}
+use Rattle.bus_picture.specs.declared.measures.TheConstants.{TICK_HEIGHT as tick_height, TIMERS_LINE as timers_line}
+use Rattle.bus_picture.specs.declared.measures.TheConstants.{UPPER_TICKS as upper_ticks, UPPER_WORDS as upper_words}
 
 -- ---- where things are
 -- The scale of a window.
 abbrev pub scale_of : Window → Scale
 scale_of window = record { from = window.from; to = window.to; left = plot_left; width = plot_width }
-
--- ---- what is counted
--- Whether a transmission meets the window.
-abbrev pub is_shown : Scale → Sent → Bool
-is_shown scale x = meets scale x.moment x.end
-
--- The transmissions that meet the window, and how many of them are garbled.
-abbrev pub counts_of : Scale → Recording → Counts
-counts_of scale trace = record {
-  from = scale.from;
-  to = scale.to;
-  horizon = trace.horizon;
-  shown = count_by (is_shown scale) (sents trace.list);
-  garbled = count_by (λ x. is_shown scale x && x.garbled) (sents trace.list);
-}
 
 -- ---- the lanes
 -- The lanes of a scale: those of a table and a list that are drawn there.
@@ -150,7 +133,7 @@ timers_text scale lanes table trace =
 -- What lies behind the horizon.
 abbrev pub unobserved_text : Scale → ℕ → ℕ → List ℕ
 unobserved_text scale bottom horizon =
-    if nat_lt horizon scale.to
+    if goes_behind scale horizon
     then titled_text Unobserved (record {
       left = place scale horizon;
       top = plot_top;
@@ -182,25 +165,16 @@ plot_text scale bottom lanes told table trace =
     ++ tints_text scale bottom trace.list ++ rows_text scale table trace.list (rows_of lanes) ++ timers_text scale lanes table trace
     ++ told_text scale table.ti lanes told trace.list
 
--- Whether a transmission is shown and takes less than a pixel.
-abbrev pub is_shown_thin : Scale → Sent → Bool
-is_shown_thin scale x = is_shown scale x && is_thin scale x
-
--- Whether a list has one.
-abbrev pub has_thin : Scale → List Entry → Bool
-has_thin scale list = list_any (is_shown_thin scale) (sents list)
-
--- What stands below the plot: how many lanes are left out, and the legend.
-abbrev pub foot_text : Scale → ℕ → ℕ → Mode → Recording → List ℕ
-foot_text scale bottom left_out mode trace =
-    left_out_text bottom left_out ++ legend_text mode (has_tints scale trace.list) (has_thin scale trace.list) (bottom + legend_below)
+-- What stands below the plot of a picture with these kinds of marks: how many lanes are left out, and the legend.
+abbrev pub foot_text : ℕ → ℕ → Kinds → List ℕ
+foot_text bottom left_out kinds = left_out_text bottom left_out ++ legend_text kinds (bottom + legend_below)
 
 -- A picture with these lanes, and with so many left out.
 abbrev pub picture_text : Scale → List Lane → ℕ → TableVerdict → Told → Table → Recording → List ℕ
 picture_text scale lanes left_out verdict told table trace =
     frame_text (lane_top (length lanes) + foot_height) verdict told table trace.list (counts_of scale trace)
     ++ plot_text scale (lane_top (length lanes)) lanes told table trace
-    ++ foot_text scale (lane_top (length lanes)) left_out table.mode trace ++ tail_text
+    ++ foot_text (lane_top (length lanes)) left_out (kinds_of scale lanes table trace) ++ tail_text
 
 -- A picture with those of these lanes that are drawn.
 abbrev pub drawn_text : Scale → List Lane → TableVerdict → Told → Table → Recording → List ℕ

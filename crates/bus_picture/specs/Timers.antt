@@ -17,8 +17,12 @@ use Rattle.bus_picture.specs.Gaps.{gap_before, gap_behind, is_first}
 use Rattle.bus_picture.specs.Gaps as gaps
 use Rattle.bus_picture.specs.Intervals.{interval_to, last_start}
 use Rattle.bus_picture.specs.Lanes.{lane_top}
-use Rattle.bus_picture.specs.Measures.{gap_below, gap_line, gap_reach, gap_room, interval_below, interval_line, interval_room}
-use Rattle.bus_picture.specs.Measures.{line_height, narrow, near_room, plot_left, stroke_below, stroke_height}
+use Rattle.bus_picture.specs.declared.measures.TheConstants.{GAP_BELOW as gap_below, GAP_LINE as gap_line, GAP_REACH as gap_reach}
+use Rattle.bus_picture.specs.declared.measures.TheConstants.{GAP_ROOM as gap_room, INTERVAL_BELOW as interval_below}
+use Rattle.bus_picture.specs.declared.measures.TheConstants.{INTERVAL_LINE as interval_line, INTERVAL_ROOM as interval_room}
+use Rattle.bus_picture.specs.declared.measures.TheConstants.{LINE_HEIGHT as line_height, NARROW as narrow, NEAR_ROOM as near_room}
+use Rattle.bus_picture.specs.declared.measures.TheConstants.{PLOT_LEFT as plot_left, STROKE_BELOW as stroke_below}
+use Rattle.bus_picture.specs.declared.measures.TheConstants.{STROKE_HEIGHT as stroke_height}
 pub use Rattle.bus_picture.specs.declared.track.Track.{Track}
 
 -- Whether timers are drawn: the transmit interval is at least 200 pixels.
@@ -116,10 +120,10 @@ interval_end scale top ti from to =
     (record { left = place scale to - line_height; top = top + stroke_below; width = line_height; height = stroke_height })
     else []
 
--- Its words, in the first lane alone, since it is the same in all, where they have room.
+-- Its words, in the first lane alone, since it is the same in all, where no start cuts it and they have room.
 abbrev pub interval_words : Scale → ℕ → ℕ → ℕ → ℕ → ℕ → List ℕ
 interval_words scale k top ti from to =
-    if nat_eq k 0 && nat_le interval_room (extent scale from to)
+    if nat_eq k 0 && nat_eq to (from + ti) && nat_le interval_room (extent scale from to)
     then words_text IntervalWords (place scale to) (top + interval_line) (codes "TI " ++ decimal ti) else []
 
 -- A transmit interval from a start to its end, in a lane.

@@ -9,7 +9,7 @@ use Rattle.bus_shapes.specs.Measures.{pixel}
 use Rattle.bus_shapes.specs.Scales.{extent, place}
 use Rattle.bus_shapes.specs.Sending.{sents}
 use Rattle.bus_shapes.specs.Shapes.{box_text}
-use Rattle.bus_picture.specs.Measures.{plot_top}
+use Rattle.bus_picture.specs.declared.measures.TheConstants.{PLOT_TOP as plot_top}
 use Rattle.bus_picture.specs.Strings.{meets}
 pub use Rattle.bus_picture.specs.declared.tints.Tint.{Tint}
 

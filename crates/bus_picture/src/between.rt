@@ -1,15 +1,14 @@
 //! The second row of the legend: what is drawn behind and between boxes.
 ghost use Rattle.std.specs.Prelude.{◌<◌};
 ghost use Rattle.bus_outer.specs.Texts.{Adds};
-ghost use Rattle.bus_table.specs.declared.mode.Mode.TheVariants.{Periodic};
 ghost use Rattle.bus_picture.specs.Legends as definition;
 
 use crate::heights::put_shares;
+use crate::kinds::Kinds;
 use crate::legend::{COLUMN_WIDTH, put_legend_box, put_note, put_sample};
 use crate::measures::{LINE_HEIGHT, OFFSET_HEIGHT, OFFSET_WIDTH};
 use bus_outer::{Sink, TextBuffer};
 use bus_shapes::{Area, Class, put_box};
-use bus_table::Mode;
 
 /// How far below the upper edge of a sample a line lies.
 const LINE_BELOW: u64 = 83;
@@ -50,37 +49,50 @@ fn put_line<K: Sink>(text: &mut TextBuffer, sink: &mut K, class: Class, left: u6
     put_legend_box(text, sink, class, left, below, COLUMN_WIDTH, LINE_HEIGHT);
 }
 
-/// What lies behind the horizon.
-fn put_horizon<K: Sink>(text: &mut TextBuffer, sink: &mut K, top: u64)
+/// What lies behind the horizon, where the window goes on there.
+fn put_horizon<K: Sink>(text: &mut TextBuffer, sink: &mut K, there: bool, top: u64)
     requires { top < 200000 }
-    ensures { Adds K.held K.faults sink.old sink.new text.old text.new (definition.legend_horizon top) }
+    ensures { Adds K.held K.faults sink.old sink.new text.old text.new (definition.legend_horizon there top) }
 {
-    put_sample(
-        text,
-        sink,
-        Class::Unobserved,
-        UNOBSERVED_LEFT,
-        top,
-        COLUMN_WIDTH,
-    );
-    put_note(text, sink, UNOBSERVED_WORDS, top, b"behind the horizon");
+    if there {
+        put_sample(
+            text,
+            sink,
+            Class::Unobserved,
+            UNOBSERVED_LEFT,
+            top,
+            COLUMN_WIDTH,
+        );
+        put_note(text, sink, UNOBSERVED_WORDS, top, b"behind the horizon");
+    }
 }
 
-/// The timers.
-fn put_lines<K: Sink>(text: &mut TextBuffer, sink: &mut K, top: u64)
+/// The gaps, where the line of one is drawn.
+fn put_gaps<K: Sink>(text: &mut TextBuffer, sink: &mut K, there: bool, top: u64)
     requires { top < 200000 }
-    ensures { Adds K.held K.faults sink.old sink.new text.old text.new (definition.legend_timers top) }
+    ensures { Adds K.held K.faults sink.old sink.new text.old text.new (definition.legend_gaps there top) }
 {
-    put_line(text, sink, Class::Gap, GAP_LEFT, top);
-    put_note(text, sink, GAP_WORDS, top, b"gap: SG, TG");
-    put_line(text, sink, Class::Interval, INTERVAL_LEFT, top);
-    put_note(text, sink, INTERVAL_WORDS, top, b"transmit interval: TI");
+    if there {
+        put_line(text, sink, Class::Gap, GAP_LEFT, top);
+        put_note(text, sink, GAP_WORDS, top, b"gap: SG, TG");
+    }
+}
+
+/// The transmit intervals, where the line of one is drawn.
+fn put_intervals<K: Sink>(text: &mut TextBuffer, sink: &mut K, there: bool, top: u64)
+    requires { top < 200000 }
+    ensures { Adds K.held K.faults sink.old sink.new text.old text.new (definition.legend_intervals there top) }
+{
+    if there {
+        put_line(text, sink, Class::Interval, INTERVAL_LEFT, top);
+        put_note(text, sink, INTERVAL_WORDS, top, b"transmit interval: TI");
+    }
 }
 
 /// The tick of an offset.
 fn put_tick<K: Sink>(text: &mut TextBuffer, sink: &mut K, top: u64)
     requires { top < 200000 }
-    ensures { Adds K.held K.faults sink.old sink.new text.old text.new (definition.legend_offsets Periodic top) }
+    ensures { Adds K.held K.faults sink.old sink.new text.old text.new (definition.tick_sample top) }
 {
     let area = Area {
         left: TICK_LEFT,
@@ -92,30 +104,24 @@ fn put_tick<K: Sink>(text: &mut TextBuffer, sink: &mut K, top: u64)
     put_note(text, sink, OFFSET_WORDS, top, b"offset: AT");
 }
 
-/// The ticks of offsets, which there are in periodic mode.
-fn put_offsets<K: Sink>(text: &mut TextBuffer, sink: &mut K, mode: Mode, top: u64)
+/// The ticks of offsets, where one is drawn.
+fn put_offsets<K: Sink>(text: &mut TextBuffer, sink: &mut K, there: bool, top: u64)
     requires { top < 200000 }
-    ensures { Adds K.held K.faults sink.old sink.new text.old text.new (definition.legend_offsets mode top) }
+    ensures { Adds K.held K.faults sink.old sink.new text.old text.new (definition.legend_offsets there top) }
 {
-    match mode {
-        Mode::Aperiodic => {}
-        Mode::Periodic => put_tick(text, sink, top),
+    if there {
+        put_tick(text, sink, top);
     }
 }
 
-/// The row of what is drawn behind and between boxes, and of how high these are.
-pub(crate) fn put_between<K: Sink>(
-    text: &mut TextBuffer,
-    sink: &mut K,
-    mode: Mode,
-    thin: bool,
-    top: u64,
-)
+/// The row of what is drawn behind and between boxes, and of how high these are, of each kind that the picture has.
+pub(crate) fn put_between<K: Sink>(text: &mut TextBuffer, sink: &mut K, kinds: Kinds, top: u64)
     requires { top < 200000 }
-    ensures { Adds K.held K.faults sink.old sink.new text.old text.new (definition.legend_between mode thin top) }
+    ensures { Adds K.held K.faults sink.old sink.new text.old text.new (definition.legend_between kinds top) }
 {
-    put_horizon(text, sink, top);
-    put_lines(text, sink, top);
-    put_offsets(text, sink, mode, top);
-    put_shares(text, sink, thin, top);
+    put_horizon(text, sink, kinds.unobserved, top);
+    put_gaps(text, sink, kinds.gaps, top);
+    put_intervals(text, sink, kinds.intervals, top);
+    put_offsets(text, sink, kinds.offsets, top);
+    put_shares(text, sink, kinds.thin, top);
 }

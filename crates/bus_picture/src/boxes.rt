@@ -1,8 +1,8 @@
 //! The boxes of a row.
 ghost use Rattle.std.specs.Prelude.{◌≡◌, ◌<◌, ◌≤◌, ◌^◌};
 ghost use Rattle.bus_outer.specs.Texts.{Adds};
-ghost use Rattle.bus_strings.specs.Transmissions.{IsByMoment};
 ghost use Rattle.bus_shapes.specs.Scales.{IsScale};
+ghost use Rattle.bus_shapes.specs.Sending.{sents as sents_of};
 ghost use Rattle.bus_picture.specs.Rows as definition;
 ghost use Rattle.bus_picture.specs.inside.Working as working;
 ghost use Rattle.bus_picture.specs.inside.Working.{IsLast, IsPile, held};
@@ -15,7 +15,7 @@ use crate::strings::put_strings;
 use crate::strokes::{inset, overhang};
 use crate::takers::Takers;
 use bus_outer::{Sink, TextBuffer};
-use bus_shapes::{Area, Class, Scale, Sent, Sents, begin_titled, end_titled};
+use bus_shapes::{Area, Class, Scale, Sent, begin_titled, end_titled};
 use bus_strings::Transmission;
 
 /// Whether a transmission is of the row, is garbled exactly where that is, and meets the moments of the scale.
@@ -229,33 +229,6 @@ fn with_next(scale: &Scale, last: &Option<Pile>, sent: &Sent) -> Pile
     }
 }
 
-/// Takes the next transmission of the list: what is then the last box.
-fn take<K: Sink>(
-    text: &mut TextBuffer,
-    sink: &mut K,
-    scale: &Scale,
-    takers: &Takers<'_>,
-    row: &Row,
-    list: &[Transmission],
-    last: Option<Pile>,
-    sent: &Sent,
-) -> Option<Pile>
-    requires scale { IsScale scale.now }
-    requires last { IsLast last }
-    requires sent { sent.now.moment ≤ sent.now.end }
-    requires few { held last < 2 ^ 63 }
-    requires top { row.now.top < 2 ^ 40 }
-    ensures adds { Adds K.held K.faults sink.old sink.new text.old text.new
-        (working.next_written scale.now takers.now row.now list.now last sent.now) }
-    ensures last { result ≡ working.next_pile scale.now row.now last sent.now }
-{
-    if !shows(scale, row, sent) {
-        return last;
-    }
-    put_written(text, sink, scale, takers, row, list, &last, sent);
-    Some(with_next(scale, &last, sent))
-}
-
 /// The last box, where there is one.
 fn put_last<K: Sink>(
     text: &mut TextBuffer,
@@ -277,7 +250,7 @@ fn put_last<K: Sink>(
     }
 }
 
-/// The boxes of a row. It goes over the list once.
+/// The boxes of a row, of a list of which this is told. It goes over that once.
 pub(crate) fn put_row<K: Sink>(
     text: &mut TextBuffer,
     sink: &mut K,
@@ -285,15 +258,19 @@ pub(crate) fn put_row<K: Sink>(
     takers: &Takers<'_>,
     row: &Row,
     list: &[Transmission],
+    sents: &[Sent],
 )
     requires scale { IsScale scale.now }
-    requires by_moment { IsByMoment list.now }
+    requires all { sents.now ≡ sents_of list.now }
     requires top { row.now.top < 2 ^ 40 }
     ensures { Adds K.held K.faults sink.old sink.new text.old text.new (definition.row_text scale.now takers.now row.now list.now) }
 {
     let mut last = None;
-    for sent in Sents::new(list) {
-        last = take(text, sink, scale, takers, row, list, last, &sent);
+    for sent in sents {
+        if shows(scale, row, sent) {
+            put_written(text, sink, scale, takers, row, list, &last, sent);
+            last = Some(with_next(scale, &last, sent));
+        }
     }
     put_last(text, sink, scale, takers, row, list, &last);
 }

@@ -2,7 +2,7 @@
 ghost use Rattle.std.specs.Prelude.{◌≡◌};
 ghost use Rattle.bus_strings.specs.Transmissions.{IsByMoment};
 ghost use Rattle.bus_shapes.specs.Scales.{IsScale};
-ghost use Rattle.bus_picture.specs.TimeLines as definition;
+ghost use Rattle.bus_picture.specs.Kinds as definition;
 
 use crate::pile::is_thin;
 use crate::places::meets;

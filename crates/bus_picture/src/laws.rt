@@ -6,6 +6,7 @@ ghost use Rattle.bus_picture.specs.OffsetLaws.{OffsetsAreMarked};
 ghost use Rattle.bus_picture.specs.Laws.{BoxesCoverNoQuiet, BoxesHoldRows, BoxesHoldTheirs, BoxesLieInRows, BreachesHideNoBox};
 ghost use Rattle.bus_picture.specs.Laws.{BusIsCounted, EachIsOnTheBus, IntervalWordsHideNoBox, LoadIsAShare, StrokesLieWithin, TailsAreQuiet};
 ghost use Rattle.bus_picture.specs.Laws.{EachIsInOneLane, GarbledAreUncovered, HatchedAreGarbled, LanesAreCounted, LeftOutAreSilent};
+ghost use Rattle.bus_picture.specs.LegendLaws.{LegendListsWhatIsDrawn};
 ghost use Rattle.bus_picture.specs.TakingLaws.{NamedReceive, ReceivesStrings};
 ghost use Rattle.bus_picture.specs.TintLaws.{OverlapsAreTinted, TintsAreOverlaps};
 
@@ -140,4 +141,10 @@ pub fn faults_are_marked()
 /// In a time line of what was recorded on a cable nothing is marked: but for its frame it is that of a lawful trace.
 pub fn cable_is_unmarked()
     ensures { CableIsUnmarked }
+{}
+
+/// The legend lists each kind of marks exactly where the picture has one: a box of what isn't garbled or of what is, a tint, what lies
+/// behind the horizon, the line of a gap or of a transmit interval, the tick of an offset, and a box of what takes less than a pixel.
+pub fn legend_lists_what_is_drawn()
+    ensures { LegendListsWhatIsDrawn }
 {}

@@ -4,9 +4,9 @@ ghost use Rattle.bus_outer.specs.Texts.{Adds};
 ghost use Rattle.bus_picture.specs.Legends as definition;
 
 use crate::between::put_between;
+use crate::kinds::Kinds;
 use bus_outer::{Sink, TextBuffer};
 use bus_shapes::{Area, Class, put_box, put_words};
-use bus_table::Mode;
 
 /// How far below the first row of the legend the second lies.
 const LEGEND_ROW: u64 = 260;
@@ -133,7 +133,7 @@ pub(crate) fn put_note<K: Sink>(
 /// What a message is.
 fn put_message<K: Sink>(text: &mut TextBuffer, sink: &mut K, top: u64)
     requires { top < 200000 }
-    ensures { Adds K.held K.faults sink.old sink.new text.old text.new (definition.legend_message top) }
+    ensures { Adds K.held K.faults sink.old sink.new text.old text.new (definition.message_sample top) }
 {
     put_sample(text, sink, Class::Message, MESSAGE_LEFT, top, MESSAGE_WIDTH);
     put_inner(text, sink, Class::Wordstring, FIRST_LEFT, top, STRING_WIDTH);
@@ -154,50 +154,62 @@ fn put_message<K: Sink>(text: &mut TextBuffer, sink: &mut K, top: u64)
     );
 }
 
-/// What is garbled.
+/// The same, where one is shown.
+fn put_messages<K: Sink>(text: &mut TextBuffer, sink: &mut K, there: bool, top: u64)
+    requires { top < 200000 }
+    ensures { Adds K.held K.faults sink.old sink.new text.old text.new (definition.legend_message there top) }
+{
+    if there {
+        put_message(text, sink, top);
+    }
+}
+
+/// What a garbled message is.
 fn put_garbled<K: Sink>(text: &mut TextBuffer, sink: &mut K, top: u64)
     requires { top < 200000 }
-    ensures { Adds K.held K.faults sink.old sink.new text.old text.new (definition.legend_garbled top) }
+    ensures { Adds K.held K.faults sink.old sink.new text.old text.new (definition.garbled_sample top) }
 {
     put_sample(text, sink, Class::Garbled, GARBLED_LEFT, top, GARBLED_WIDTH);
     put_inner(text, sink, Class::Noise, NOISE_LEFT, top, NOISE_WIDTH);
     put_note(text, sink, GARBLED_WORDS, top, b"garbled");
 }
 
-/// Tints, where there is one.
-fn put_tint<K: Sink>(text: &mut TextBuffer, sink: &mut K, tinted: bool, top: u64)
+/// The same, where one is shown.
+fn put_all_garbled<K: Sink>(text: &mut TextBuffer, sink: &mut K, there: bool, top: u64)
     requires { top < 200000 }
-    ensures { Adds K.held K.faults sink.old sink.new text.old text.new (definition.legend_tint tinted top) }
+    ensures { Adds K.held K.faults sink.old sink.new text.old text.new (definition.legend_garbled there top) }
 {
-    if tinted {
+    if there {
+        put_garbled(text, sink, top);
+    }
+}
+
+/// Tints, where there is one.
+fn put_tint<K: Sink>(text: &mut TextBuffer, sink: &mut K, there: bool, top: u64)
+    requires { top < 200000 }
+    ensures { Adds K.held K.faults sink.old sink.new text.old text.new (definition.legend_tint there top) }
+{
+    if there {
         put_sample(text, sink, Class::Overlap, OVERLAP_LEFT, top, COLUMN_WIDTH);
         put_note(text, sink, OVERLAP_WORDS, top, b"two or more at once");
     }
 }
 
-/// The row of boxes.
-fn put_boxes<K: Sink>(text: &mut TextBuffer, sink: &mut K, tinted: bool, top: u64)
+/// The row of boxes and tints, of each kind that the picture has.
+fn put_boxes<K: Sink>(text: &mut TextBuffer, sink: &mut K, kinds: Kinds, top: u64)
     requires { top < 200000 }
-    ensures { Adds K.held K.faults sink.old sink.new text.old text.new (definition.legend_boxes tinted top) }
+    ensures { Adds K.held K.faults sink.old sink.new text.old text.new (definition.legend_boxes kinds top) }
 {
-    put_message(text, sink, top);
-    put_garbled(text, sink, top);
-    put_tint(text, sink, tinted, top);
+    put_messages(text, sink, kinds.messages, top);
+    put_all_garbled(text, sink, kinds.garbled, top);
+    put_tint(text, sink, kinds.tints, top);
 }
 
-/// The legend of a picture of a table in this mode, with tints or without, with boxes of what takes less than a pixel or without, with
-/// this upper edge.
-pub(crate) fn put_legend<K: Sink>(
-    text: &mut TextBuffer,
-    sink: &mut K,
-    mode: Mode,
-    tinted: bool,
-    thin: bool,
-    top: u64,
-)
+/// The legend of a picture that has these kinds of marks, with this upper edge.
+pub(crate) fn put_legend<K: Sink>(text: &mut TextBuffer, sink: &mut K, kinds: Kinds, top: u64)
     requires { top < 150000 }
-    ensures { Adds K.held K.faults sink.old sink.new text.old text.new (definition.legend_text mode tinted thin top) }
+    ensures { Adds K.held K.faults sink.old sink.new text.old text.new (definition.legend_text kinds top) }
 {
-    put_boxes(text, sink, tinted, top);
-    put_between(text, sink, mode, thin, top + LEGEND_ROW);
+    put_boxes(text, sink, kinds, top);
+    put_between(text, sink, kinds, top + LEGEND_ROW);
 }

@@ -4,8 +4,9 @@
 //! share a box), `Strings` (the wordstrings of a message, and their words where these have room), `Takings` (who takes words of them),
 //! `Rows` (what is drawn of the transmissions of a row), `Tints` (where several are sent at once), `Lanes` (which lanes are drawn), `Gaps`,
 //! `Intervals` and `Timers` (the gaps in each quiet, and the transmit intervals), `Offsets` (where senders should start), `Marks` (the
-//! first breach), `Faults` (the faults that are found), `Paces` (how far starts lie apart), `Loads`, and `TimeLines` (which rows there are,
-//! and the whole text). What all pictures share is in `bus_shapes`. No call takes memory.
+//! first breach), `Faults` (the faults that are found), `Paces` (how far starts lie apart), `Loads`, `Kinds` and `Legends` (which kinds of
+//! marks there are, and what they mean), and `TimeLines` (which rows there are, and the whole text). What all pictures share is in
+//! `bus_shapes`. No call takes memory.
 #![tactic(auto)]
 
 mod between;
@@ -16,14 +17,17 @@ mod fault;
 mod faults;
 mod heard;
 mod heights;
+mod kinds;
 mod lanes;
 pub mod laws;
 mod legend;
+mod lined;
 mod lines;
 mod load;
 mod marks;
 mod measures;
 mod names;
+mod near;
 mod offsets;
 mod pace;
 mod pile;

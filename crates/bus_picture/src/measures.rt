@@ -1,4 +1,4 @@
-//! The measures of time lines, in units of a tenth of a pixel. Contracts have them as the words of `specs/Measures`.
+//! The measures of time lines, in units of a tenth of a pixel. The definitions cite them.
 
 /// The upper edge of the plot, which is that of the bus.
 pub(crate) const PLOT_TOP: u64 = 1170;

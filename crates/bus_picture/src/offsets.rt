@@ -3,6 +3,8 @@ ghost use Rattle.std.specs.Prelude.{◌≡◌, ◌+◌, ◌*◌, ◌<◌, ◌≤
 ghost use Rattle.bus_outer.specs.Texts.{Adds};
 ghost use Rattle.bus_shapes.specs.Scales.{IsScale};
 ghost use Rattle.bus_audit.specs.Breaches as breaches;
+ghost use Rattle.bus_table.specs.declared.mode.Mode.TheVariants.{Periodic};
+ghost use Rattle.bus_picture.specs.Kinds as kinds;
 ghost use Rattle.bus_picture.specs.Offsets as definition;
 
 use crate::measures::{OFFSET_HEIGHT, OFFSET_WIDTH, TICK_BELOW};
@@ -32,6 +34,19 @@ fn rounds_before(ti: u64, at: u64, t: u64) -> u64
     ensures { result ≡ definition.rounds_before ti at t }
 {
     (t.saturating_sub(at) + (ti - 1)) / ti
+}
+
+/// Whether a start of a sender lies in the scale.
+fn has_round(scale: &Scale, ti: u32, at: u32, held: u32) -> bool
+    requires scale { IsScale scale.now }
+    requires some { 0 < ti }
+    ensures { result ≡ kinds.has_tick Periodic scale.now ti at held }
+{
+    let interval = u64::from(ti);
+    let offset = u64::from(at);
+    let first = rounds_before(interval, offset, scale.from);
+    let due = rounds_before(interval, offset, scale.to);
+    first < due.min(u64::from(held))
 }
 
 /// The tick of a moment.
@@ -137,5 +152,17 @@ pub(crate) fn put_offsets<K: Sink>(
     match mode {
         Mode::Aperiodic => {}
         Mode::Periodic => put_periodic(text, sink, scale, top, ti, at, held),
+    }
+}
+
+/// Whether a tick is drawn of a sender with this offset that held so many messages, where the table is periodic.
+pub(crate) fn has_tick(mode: Mode, scale: &Scale, ti: u32, at: u32, held: u32) -> bool
+    requires scale { IsScale scale.now }
+    requires some { 0 < ti }
+    ensures { result ≡ kinds.has_tick mode scale.now ti at held }
+{
+    match mode {
+        Mode::Aperiodic => false,
+        Mode::Periodic => has_round(scale, ti, at, held),
     }
 }

@@ -1,7 +1,7 @@
 //! The rows of the bus and of the lanes.
 ghost use Rattle.std.specs.Prelude.{◌≡◌, ◌<◌, ◌≤◌, ◌^◌, length};
 ghost use Rattle.bus_outer.specs.Texts.{Adds};
-ghost use Rattle.bus_strings.specs.Transmissions.{IsByMoment};
+ghost use Rattle.bus_shapes.specs.Sending.{sents as sents_of};
 ghost use Rattle.bus_shapes.specs.Scales.{IsScale};
 ghost use Rattle.bus_picture.specs.Rows.{rows_text};
 ghost use Rattle.bus_picture.specs.TimeLines as definition;
@@ -13,9 +13,8 @@ use crate::row::Row;
 use crate::takers::Takers;
 use bus_dump::Lane;
 use bus_outer::{Sink, TextBuffer};
-use bus_shapes::Scale;
+use bus_shapes::{Scale, Sent};
 use bus_strings::Transmission;
-use bus_strings::laws::neighbours_tell;
 use bus_table::Table;
 use bus_trace::Trace;
 
@@ -26,11 +25,12 @@ fn put_rows_at<K: Sink>(
     scale: &Scale,
     takers: &Takers<'_>,
     list: &[Transmission],
+    sents: &[Sent],
     terminal: Option<u8>,
     top: u64,
 )
     requires scale { IsScale scale.now }
-    requires by_moment { IsByMoment list.now }
+    requires all { sents.now ≡ sents_of list.now }
     requires low { top < 2 ^ 40 }
     ensures { Adds K.held K.faults sink.old sink.new text.old text.new
         (rows_text scale.now takers.now list.now (definition.rows_at terminal top)) }
@@ -45,8 +45,8 @@ fn put_rows_at<K: Sink>(
         garbled: true,
         top,
     };
-    put_row(text, sink, scale, takers, &plain, list);
-    put_row(text, sink, scale, takers, &hurt, list);
+    put_row(text, sink, scale, takers, &plain, list, sents);
+    put_row(text, sink, scale, takers, &hurt, list, sents);
 }
 
 /// The rows of lane `k`.
@@ -56,36 +56,47 @@ fn put_lane<K: Sink>(
     scale: &Scale,
     takers: &Takers<'_>,
     list: &[Transmission],
+    sents: &[Sent],
     k: usize,
     lane: Lane,
 )
     requires scale { IsScale scale.now }
-    requires by_moment { IsByMoment list.now }
+    requires all { sents.now ≡ sents_of list.now }
     requires few { k ≤ 256 }
     ensures { Adds K.held K.faults sink.old sink.new text.old text.new
         (rows_text scale.now takers.now list.now (definition.lane_rows k lane)) }
 {
     let top = lane_top(k);
-    put_rows_at(text, sink, scale, takers, list, Some(lane.terminal), top);
+    put_rows_at(
+        text,
+        sink,
+        scale,
+        takers,
+        list,
+        sents,
+        Some(lane.terminal),
+        top,
+    );
 }
 
-/// The rows of each lane. It goes over the list twice for each.
+/// The rows of each lane. It goes over what is told of the list twice for each.
 fn put_lanes<K: Sink>(
     text: &mut TextBuffer,
     sink: &mut K,
     scale: &Scale,
     takers: &Takers<'_>,
     list: &[Transmission],
+    sents: &[Sent],
     lanes: &[Lane],
 )
     requires scale { IsScale scale.now }
-    requires by_moment { IsByMoment list.now }
+    requires all { sents.now ≡ sents_of list.now }
     requires few { length lanes.now ≤ 256 }
     ensures { Adds K.held K.faults sink.old sink.new text.old text.new
         (rows_text scale.now takers.now list.now (definition.rows_of_lanes lanes.now)) }
 {
     for k in 0..lanes.len() {
-        put_lane(text, sink, scale, takers, list, k, lanes[k]);
+        put_lane(text, sink, scale, takers, list, sents, k, lanes[k]);
     }
 }
 
@@ -97,15 +108,16 @@ pub(crate) fn put_rows<K: Sink>(
     lanes: &[Lane],
     table: &Table,
     trace: &Trace,
+    sents: &[Sent],
 )
     requires scale { IsScale scale.now }
     requires few { length lanes.now ≤ 256 }
+    requires all { sents.now ≡ sents_of trace.now.list }
     ensures { Adds K.held K.faults sink.old sink.new text.old text.new
         (rows_text scale.now table.now trace.now.list (definition.rows_of lanes.now)) }
 {
-    neighbours_tell();
     let list = trace.list();
     let takers = Takers::new(table);
-    put_rows_at(text, sink, scale, &takers, list, None, PLOT_TOP);
-    put_lanes(text, sink, scale, &takers, list, lanes);
+    put_rows_at(text, sink, scale, &takers, list, sents, None, PLOT_TOP);
+    put_lanes(text, sink, scale, &takers, list, sents, lanes);
 }

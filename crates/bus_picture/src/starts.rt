@@ -100,7 +100,7 @@ fn put_gap_words<K: Sink>(
 }
 
 /// Where the transmit interval from a start ends, given the next start.
-fn interval_to(ti: u32, moment: u64, next: Option<u64>) -> u64
+pub(crate) fn interval_to(ti: u32, moment: u64, next: Option<u64>) -> u64
     requires { moment ≤ 2 ^ 41 }
     ensures { result ≡ intervals.interval_to ti moment next }
 {
@@ -156,7 +156,7 @@ fn put_interval_end<K: Sink>(
     }
 }
 
-/// Its words, in the first lane alone, where they have room.
+/// Its words, in the first lane alone, where no start cuts it and they have room.
 fn put_interval_words<K: Sink>(
     text: &mut TextBuffer,
     sink: &mut K,
@@ -168,10 +168,11 @@ fn put_interval_words<K: Sink>(
     requires scale { IsScale scale.now }
     requires top { track.top < 100000 }
     requires order { from ≤ to }
+    requires low { from ≤ 2 ^ 41 }
     ensures { Adds K.held K.faults sink.old sink.new text.old text.new
         (definition.interval_words scale.now track.k track.top track.ti from to) }
 {
-    if track.k == 0 && INTERVAL_ROOM <= scale.extent(from, to) {
+    if track.k == 0 && to == from + u64::from(track.ti) && INTERVAL_ROOM <= scale.extent(from, to) {
         begin_words(
             text,
             sink,

@@ -3,7 +3,7 @@ ghost use Rattle.std.specs.Prelude.{◌≡◌, ◌<◌, ◌≤◌, ◌+◌, ◌^
 ghost use Rattle.bus_outer.specs.Texts.{Adds};
 ghost use Rattle.bus_strings.specs.Transmissions.{IsByMoment};
 ghost use Rattle.bus_shapes.specs.Scales.{IsScale};
-ghost use Rattle.bus_picture.specs.Measures.{gap_line, gap_room};
+ghost use Rattle.bus_picture.specs.declared.measures.TheConstants.{GAP_LINE as gap_line, GAP_ROOM as gap_room};
 ghost use Rattle.bus_picture.specs.Timers as definition;
 ghost use Rattle.bus_picture.specs.TimeLines as whole;
 
@@ -31,7 +31,7 @@ pub(crate) fn is_near(scale: &Scale, ti: u32) -> bool
 }
 
 /// Whether a transmission comes a synchronization gap or more behind all before it, and the scale has that gap.
-fn is_behind_gap(scale: &Scale, sg: u32, sent: &Sent) -> bool
+pub(crate) fn is_behind_gap(scale: &Scale, sg: u32, sent: &Sent) -> bool
     requires { IsScale scale.now }
     ensures value { result ≡ definition.is_behind_gap scale.now sg sent.now }
     ensures low { (result ≡ true) → sent.now.before ≤ scale.now.to }
@@ -129,7 +129,7 @@ fn put_bus_timer<K: Sink>(
 }
 
 /// What is the same all along lane `k` of a trace with this horizon, of a sender with this terminal and this terminal gap.
-fn track_of(table: &Table, horizon: u64, k: usize, terminal: u8, tg: u32) -> Track
+pub(crate) fn track_of(table: &Table, horizon: u64, k: usize, terminal: u8, tg: u32) -> Track
     requires { k ≤ 256 }
     ensures value { result ≡ definition.track_of table.now horizon k terminal tg }
     ensures low { result.top < 100000 }

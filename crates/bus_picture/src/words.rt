@@ -4,7 +4,7 @@ ghost use Rattle.bus_outer.specs.Texts.{Adds};
 ghost use Rattle.bus_text.specs.Digits.{hexadecimal};
 ghost use Rattle.bus_strings.specs.Limits.{word_bits};
 ghost use Rattle.bus_shapes.specs.Scales.{IsScale};
-ghost use Rattle.bus_picture.specs.Measures.{digits_room, label_room};
+ghost use Rattle.bus_picture.specs.declared.measures.TheConstants.{DIGITS_ROOM as digits_room, LABEL_ROOM as label_room};
 ghost use Rattle.bus_picture.specs.Strings as definition;
 
 use crate::measures::{DIGITS_ROOM, EDGE_WIDTH, LABEL_ROOM, STRING_LINE, WORD_ROOM};

@@ -4,12 +4,14 @@ ghost use Rattle.bus_load.specs.Loads.{IsCarrierOf};
 ghost use Rattle.bus_outer.specs.Sinks.{WritesText};
 ghost use Rattle.bus_outer.specs.Texts.{Adds};
 ghost use Rattle.bus_shapes.specs.Scales.{IsScale};
+ghost use Rattle.bus_shapes.specs.Sending.{sents as sents_of};
 ghost use Rattle.bus_picture.specs.TimeLines.{time_line_text};
 ghost use Rattle.bus_picture.specs.TimeLines as definition;
 
 use crate::choosing::drawn_lanes;
-use crate::counting::{counts, has_thin};
+use crate::counting::counts;
 use crate::faults::put_told;
+use crate::kinds::{Kinds, kinds_of};
 use crate::lanes::{lane_top, put_fronts};
 use crate::legend::put_legend;
 use crate::load::put_loads;
@@ -20,17 +22,17 @@ use crate::measures::{
 use crate::pace::put_paces;
 use crate::rows::put_rows;
 use crate::timers::put_timers;
-use crate::tints::{has_tints, put_tints};
+use crate::tints::put_tints;
 use arrayvec::ArrayVec;
 use bus_dump::{Lane, MOST_LANES, lanes_of};
 use bus_load::Stretch;
 use bus_outer::{Sink, TextBuffer, WriteFault};
 use bus_regime::TableVerdict;
 use bus_shapes::{
-    Area, Axis, Class, Scale, Told, Unit, begin_titled, begin_words, end_titled, end_words,
+    Area, Axis, Class, Scale, Sent, Told, Unit, begin_titled, begin_words, end_titled, end_words,
     put_axis, put_frame, put_tail, put_words,
 };
-use bus_table::{Mode, Table};
+use bus_table::Table;
 use bus_trace::{Trace, Window};
 
 /// The scale of a window.
@@ -109,11 +111,13 @@ fn put_plot<K: Sink>(
     table: &Table,
     trace: &Trace,
     carrier: &[Stretch],
+    sents: &[Sent],
 )
     requires scale { IsScale scale.now }
     requires few { length lanes.now ≤ 256 }
     requires bottom { bottom ≡ definition.lane_top (length lanes.now) }
     requires carrier { IsCarrierOf carrier.now trace.now.list }
+    requires all { sents.now ≡ sents_of trace.now.list }
     ensures { Adds K.held K.faults sink.old sink.new text.old text.new
         (definition.plot_text scale.now bottom lanes.now told.now table.now trace.now) }
 {
@@ -133,7 +137,7 @@ fn put_plot<K: Sink>(
     let horizon = trace.horizon();
     put_unobserved(text, sink, scale, bottom, horizon);
     put_tints(text, sink, scale, bottom, trace);
-    put_rows(text, sink, scale, lanes, table, trace);
+    put_rows(text, sink, scale, lanes, table, trace, sents);
     put_timers(text, sink, scale, lanes, table, trace);
     let ti = table.ti();
     put_told(text, sink, scale, ti, lanes, told, list);
@@ -152,25 +156,20 @@ fn put_left_out<K: Sink>(text: &mut TextBuffer, sink: &mut K, bottom: u64, count
     }
 }
 
-/// What stands below the plot.
+/// What stands below the plot of a picture with these kinds of marks.
 fn put_foot<K: Sink>(
     text: &mut TextBuffer,
     sink: &mut K,
-    scale: &Scale,
     bottom: u64,
     left_out: usize,
-    mode: Mode,
-    trace: &Trace,
+    kinds: Kinds,
 )
-    requires scale { IsScale scale.now }
-    requires bottom { bottom < 100000 }
+    requires { bottom < 100000 }
     ensures { Adds K.held K.faults sink.old sink.new text.old text.new
-        (definition.foot_text scale.now bottom left_out mode trace.now) }
+        (definition.foot_text bottom left_out kinds) }
 {
     put_left_out(text, sink, bottom, left_out);
-    let tinted = has_tints(scale, trace);
-    let thin = has_thin(scale, trace);
-    put_legend(text, sink, mode, tinted, thin, bottom + LEGEND_BELOW);
+    put_legend(text, sink, kinds, bottom + LEGEND_BELOW);
 }
 
 /// A picture with these lanes, and with so many left out.
@@ -185,10 +184,12 @@ fn put_picture<K: Sink>(
     table: &Table,
     trace: &Trace,
     carrier: &[Stretch],
+    sents: &[Sent],
 )
     requires scale { IsScale scale.now }
     requires few { length lanes.now ≤ 256 }
     requires carrier { IsCarrierOf carrier.now trace.now.list }
+    requires all { sents.now ≡ sents_of trace.now.list }
     ensures { Adds K.held K.faults sink.old sink.new text.old text.new
         (definition.picture_text scale.now lanes.now left_out verdict.now told.now table.now trace.now) }
 {
@@ -206,10 +207,10 @@ fn put_picture<K: Sink>(
         &counts,
     );
     put_plot(
-        text, sink, scale, bottom, lanes, told, table, trace, carrier,
+        text, sink, scale, bottom, lanes, told, table, trace, carrier, sents,
     );
-    let mode = table.mode();
-    put_foot(text, sink, scale, bottom, left_out, mode, trace);
+    let kinds = kinds_of(scale, lanes, table, trace, &counts);
+    put_foot(text, sink, bottom, left_out, kinds);
     put_tail(text, sink);
 }
 
@@ -224,9 +225,11 @@ fn put_drawn<K: Sink>(
     table: &Table,
     trace: &Trace,
     carrier: &[Stretch],
+    sents: &[Sent],
 )
     requires scale { IsScale scale.now }
     requires carrier { IsCarrierOf carrier.now trace.now.list }
+    requires all { sents.now ≡ sents_of trace.now.list }
     ensures { Adds K.held K.faults sink.old sink.new text.old text.new
         (definition.drawn_text scale.now all.items verdict.now told.now table.now trace.now) }
 {
@@ -245,13 +248,14 @@ fn put_drawn<K: Sink>(
         table,
         trace,
         carrier,
+        sents,
     );
 }
 
-/// Writes the time line of a trace in a window, with the words of the verdict on the table and what is told of the trace, and with the
-/// load by `carrier`, that of the trace. It goes over the trace some six times for each lane, and over the lanes once for each fault, and
-/// takes no memory but half a megabyte of the stack. Findings are those of the trace, one for each transmission: what is beyond either is
-/// not marked.
+/// Writes the time line of a trace in a window, with the words of the verdict on the table and what is told of the trace, with the load by
+/// `carrier`, that of the trace, and with `sents`, what is told of each of its transmissions. It goes over these twice for each lane,
+/// over the trace up to six times for each lane, and over the lanes once for each fault, and takes no memory but half a megabyte of the
+/// stack. Findings are those of the trace, one for each transmission: what is beyond either is not marked.
 ///
 /// At `WriteFault` the sink has taken a front of the text, and its count of faults rose.
 pub fn write_time_line<K: Sink>(
@@ -261,9 +265,11 @@ pub fn write_time_line<K: Sink>(
     table: &Table,
     trace: &Trace,
     carrier: &[Stretch],
+    sents: &[Sent],
     sink: &mut K,
 ) -> Result<(), WriteFault>
-    requires { IsCarrierOf carrier.now trace.now.list }
+    requires carrier { IsCarrierOf carrier.now trace.now.list }
+    requires all { sents.now ≡ sents_of trace.now.list }
     ensures { WritesText K.held K.faults sink.old sink.new result
         (time_line_text window.now verdict.now told.now table.now trace.now) }
 {
@@ -271,7 +277,7 @@ pub fn write_time_line<K: Sink>(
     let lanes = lanes_of(table, trace.list());
     let mut text = TextBuffer::new();
     put_drawn(
-        &mut text, sink, &scale, lanes, verdict, told, table, trace, carrier,
+        &mut text, sink, &scale, lanes, verdict, told, table, trace, carrier, sents,
     );
     text.finish(sink)
 }

@@ -1,14 +1,15 @@
 -- What a walk over a list keeps that draws the timers of a sender.
-use Rattle.std.specs.Prelude.{◌≡◌, ℕ, ◌+◌, ◌^◌, ◌==◌, ◌≤◌, Bool, false, nat_lt, List, [], ◌++◌, codes, fold, take, ⊤, Option, Some, None}
-use Rattle.std.specs.Prelude.{if◌then◌else◌}
-use Rattle.std.specs.List.{AllByRecursion, flat_map}
+use Rattle.std.specs.Prelude.{◌≡◌, ℕ, ◌+◌, ◌^◌, ◌==◌, ◌≤◌, Bool, false, ◌&&◌, nat_lt, List, [], ◌++◌, codes}
+use Rattle.std.specs.Prelude.{fold, take, ⊤, Option, Some, None, if◌then◌else◌}
+use Rattle.std.specs.List.{AllByRecursion, flat_map, list_any}
 use Rattle.bus_strings.specs.Messages.{Entry}
 use Rattle.bus_shapes.specs.declared.area.Area.{Area}
 use Rattle.bus_shapes.specs.declared.scale.Scale.{Scale}
 use Rattle.bus_shapes.specs.declared.sent.Sent.{Sent}
 use Rattle.bus_shapes.specs.Sending.{sents, sents_from}
 use Rattle.bus_picture.specs.Gaps.{Gap, Heard, gap_from, gap_place, heard_more, heard_of, last_moment, settled}
-use Rattle.bus_picture.specs.Measures.{gap_line}
+use Rattle.bus_picture.specs.Kinds.{is_gap, is_interval}
+use Rattle.bus_picture.specs.declared.measures.TheConstants.{GAP_LINE as gap_line}
 use Rattle.bus_picture.specs.Timers.{Track, gap_size, gap_words, interval_behind, size_room, terminal_gap, timers_at, words_above}
 pub use Rattle.bus_picture.specs.declared.heard.Hearing.{Hearing}
 
@@ -69,6 +70,19 @@ last_text scale track last heard =
 -- What is drawn at the first k transmissions of a list.
 abbrev pub drawn_first : Scale → List Entry → Track → ℕ → List ℕ
 drawn_first scale list track k = flat_map (timers_at scale list track) (sents_from list 0 (take k list))
+
+-- ---- what is drawn
+-- Whether the line of the terminal gap is drawn before the transmission that was heard last.
+abbrev pub is_gap_before : Scale → Track → Hearing → Bool
+is_gap_before scale track hearing = hearing.first && is_gap scale (heard_gap track hearing.before hearing.moment)
+
+-- Whether that of the transmit interval up to a transmission is.
+abbrev pub is_interval_before : Scale → Track → Option ℕ → Entry → Bool
+is_interval_before scale track last x = x.terminal == track.terminal && is_interval scale track last (Some x.moment)
+
+-- Whether something is of the first k transmissions of a list, given whether it is of each.
+abbrev pub any_first : (Sent → Bool) → List Entry → ℕ → Bool
+any_first test list k = list_any test (sents_from list 0 (take k list))
 
 -- A last start is a moment of a trace.
 abbrev pub IsEarly : Option ℕ → Type 0

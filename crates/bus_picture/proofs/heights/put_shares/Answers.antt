@@ -1,4 +1,4 @@
-use Rattle.std.proofs.Common.{Bool, ◌++◌, sym, subst}
+use Rattle.std.proofs.Common.{Bool, sym, subst}
 use Rattle.bus_outer.specs.Texts.{Adds}
 use Rattle.bus_outer.proofs.TextLaws.{◌▸◌}
 use Rattle.bus_picture.specs.Legends.{legend_shares}

@@ -5,7 +5,7 @@ use Rattle.bus_outer.proofs.TextLaws.{◌▸◌}
 use Rattle.bus_shapes.specs.declared.area.Area.{Area}
 use Rattle.bus_shapes.specs.declared.class.Class.TheVariants.{Gap}
 use Rattle.bus_shapes.specs.Shapes.{box_text}
-use Rattle.bus_picture.specs.Measures.{gap_line, gap_room}
+use Rattle.bus_picture.specs.declared.measures.TheConstants.{GAP_LINE as gap_line, GAP_ROOM as gap_room}
 use Rattle.bus_picture.specs.Timers.{gap_at, words_above}
 use Rattle.bus_picture.proofs.timers.put_sync_from.Goals as goal
 

@@ -10,7 +10,7 @@ use Rattle.bus_picture.specs.Rows.{rows_text}
 use Rattle.bus_picture.specs.Tints.{tints_text}
 use Rattle.bus_picture.specs.TimeLines.{axes_text, each_lane, lane_front, rows_of, timers_text, unobserved_text}
 use Rattle.bus_picture.specs.Faults.{told_text}
-use Rattle.bus_picture.specs.Measures.{plot_top}
+use Rattle.bus_picture.specs.declared.measures.TheConstants.{PLOT_TOP as plot_top}
 use Rattle.bus_picture.proofs.writing.put_plot.Goals as goal
 
 pub returns : goal.returns
