@@ -1,12 +1,10 @@
 -- Rows that are cut are drawn open, and whole ones have all of their cycle.
-use Rattle.std.proofs.Common.{◌≡◌, ◌≢◌, ◌↔◌, ℕ, ◌+◌, ◌-◌, ◌*◌, ◌/◌, ◌<◌, ◌≤◌, Bool, true, false, cond, ltb, leb, max, fold, List, [], ◌∷◌, ◌++◌, length, inl, inr, arith, sym, refl, ap, subst, ◌∙◌}
-use Rattle.std.specs.Prelude.{codes, decimal, not, ◌&&◌}
+use Rattle.std.proofs.Common.{◌≡◌, ◌≢◌, ◌↔◌, ℕ, ◌+◌, ◌-◌, ◌*◌, ◌/◌, ◌<◌, ◌≤◌, Bool, true, false, cond, ltb, leb, max, fold, List, [], ◌∷◌, ◌++◌, length, inl, inr, arith, sym, refl, ap, ◌∙◌}
+use Rattle.std.specs.Prelude.{codes, decimal, not}
 use Rattle.std.specs.List.{AllByRecursion}
-use Rattle.std.proofs.lemmas.Bool.{and_parts, leb-true, ltb-true, ltb-false, not-false, true≢false}
+use Rattle.std.proofs.lemmas.Bool.{and_parts, leb-true, ltb-true, ltb-false}
 use Rattle.bus_strings.specs.Members.{In}
 use Rattle.bus_strings.proofs.MemberLaws.{of_each}
-use Rattle.bus_table.specs.declared.mode.Mode.{Mode}
-use Rattle.bus_table.specs.declared.mode.Mode.TheVariants.{Aperiodic}
 use Rattle.bus_table.proofs.ValidLaws.{valid_facts}
 use Rattle.bus_shapes.specs.declared.area.Area.{Area}
 use Rattle.bus_shapes.specs.declared.class.Class.{Class}
@@ -14,19 +12,19 @@ use Rattle.bus_shapes.specs.declared.class.Class.TheVariants.{Unobserved}
 use Rattle.bus_shapes.specs.Classes.{class_name}
 use Rattle.bus_shapes.specs.Shapes.{titled_end, titled_text}
 use Rattle.bus_shapes.specs.Laws.{PlacesLieWithin, PlacesRise}
-use Rattle.bus_shapes.specs.Scales.{IsScale, place}
+use Rattle.bus_shapes.specs.Scales.{place}
 use Rattle.bus_shapes.specs.declared.sent.Sent.{Sent}
-use Rattle.bus_cycles.specs.Cuts.{Seen, is_cut_before, is_cut_before_in, is_cut_behind, is_cut_behind_in, is_whole}
+use Rattle.bus_cycles.specs.Cuts.{is_cut_before, is_cut_before_in, is_cut_behind, is_cut_behind_in}
 use Rattle.bus_cycles.specs.Laws.{CutAreOpen, OpenHidesNone, WholeAreSeen}
 use Rattle.bus_cycles.specs.Pages.{Page, page_of}
-use Rattle.bus_cycles.specs.Rows.{Cycle, Extent, Row, cycle_of, end_of_all, extent_of, is_fresh, is_new, row_at, rows, rows_from, rows_of, with_sent}
-use Rattle.bus_cycles.specs.RowTexts.{before_area, behind_area, behind_left, left_of, pixel, right_of}
+use Rattle.bus_cycles.specs.Rows.{Cycle, Row, cycle_of, end_of_all, extent_of, is_fresh, is_new, row_at, rows, rows_from, rows_of, with_sent}
+use Rattle.bus_cycles.specs.RowTexts.{before_area, behind_area, pixel}
 use Rattle.bus_cycles.specs.Sents.{shown}
 use Rattle.bus_cycles.proofs.WordLemmas.{pixel_rises}
 
 -- ---- open where cut
 -- a text that is some is drawn exactly where it is
-drawn_where : (b : Bool) (text : List ℕ) → text ≢ [] → (cond b text [] ≢ []) ↔ (b ≡ true)
+pub drawn_where : (b : Bool) (text : List ℕ) → text ≢ [] → (cond b text [] ≢ []) ↔ (b ≡ true)
 drawn_where true text some = (λ h. refl, λ h. some)
 drawn_where false text some = (λ h. absurd (h refl), λ h. absurd cc)
 

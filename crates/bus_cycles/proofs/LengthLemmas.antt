@@ -1,13 +1,12 @@
 -- The least and the greatest length of whole rows, and how many rows there are.
 use Rattle.std.proofs.Common.{◌≡◌, ◌⊎◌, ℕ, ◌+◌, ◌<◌, ◌≤◌, Bool, true, false, cond, eqb, max, min, List, [], ◌∷◌, length, map, fold, Option, inl, inr, arith, sym, refl, ap, subst, ◌∙◌}
-use Rattle.std.specs.List.{count_by, filter}
+use Rattle.std.specs.List.{filter}
 use Rattle.std.proofs.lemmas.Bool.{cases_lt, ne_eqb, eq-eqb}
 use Rattle.std.proofs.lemmas.List.Sums.{length-filter}
 use Rattle.bus_strings.specs.Members.{In}
 use Rattle.bus_cycles.specs.Cuts.{Seen, is_whole}
 use Rattle.bus_cycles.specs.Laws.{LengthsAreOfRows, RowsAreCounted, RowsHaveLengths, WholeAreCounted}
 use Rattle.bus_cycles.specs.Rows.{Cycle, Extent, Row, cycle_of, extent_of, rows}
-use Rattle.bus_cycles.specs.Sents.{shown}
 use Rattle.bus_cycles.specs.Surveys.{Survey, least_with, length_of, nothing, with_row}
 
 -- ---- the lengths bound those of whole rows

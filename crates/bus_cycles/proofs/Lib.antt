@@ -1,4 +1,7 @@
 -- The lemmas of this crate; those that a crate above may cite are public.
+pub mod BeginLemmas
+pub mod OrderLemmas
+pub mod ListingLemmas
 pub mod CableLemmas
 pub mod SentLemmas
 pub mod RowLemmas

@@ -28,7 +28,7 @@ part_of f (y ∷ ys) x (inr i) =
     }
 
 -- a part of a part
-part_in : (part middle whole : List ℕ) → IsPartOf part middle → IsPartOf middle whole → IsPartOf part whole
+pub part_in : (part middle whole : List ℕ) → IsPartOf part middle → IsPartOf middle whole → IsPartOf part whole
 part_in part middle whole a b = record {
   front = b.front ++ a.front;
   back = a.back ++ b.back;
@@ -39,7 +39,7 @@ part_in part middle whole a b = record {
       ∙ ap (λ t. t ++ (a.back ++ b.back)) (sym (append_assoc b.front a.front part));
 }
 
-part_front : (part whole more : List ℕ) → IsPartOf part whole → IsPartOf part (whole ++ more)
+pub part_front : (part whole more : List ℕ) → IsPartOf part whole → IsPartOf part (whole ++ more)
 part_front part whole more a = part_in part whole (whole ++ more) a (record { front = []; back = more; whole_is = refl })
 
 pub faults_marked : FaultsAreMarked

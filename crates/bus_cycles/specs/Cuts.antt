@@ -1,5 +1,5 @@
 -- Which rows are whole, and which are cut: by the settled start, by the window or by the horizon.
-use Rattle.std.specs.Prelude.{ℕ, ◌+◌, Bool, not, ◌&&◌, nat_lt, min}
+use Rattle.std.specs.Prelude.{◌+◌, Bool, not, ◌&&◌, nat_lt, min}
 use Rattle.bus_table.specs.declared.mode.Mode.{Mode}
 use Rattle.bus_table.specs.declared.mode.Mode.TheVariants.{Aperiodic, Periodic}
 use Rattle.bus_shapes.specs.declared.counts.Counts.{Counts}

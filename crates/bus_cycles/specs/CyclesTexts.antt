@@ -11,14 +11,11 @@ use Rattle.bus_shapes.specs.declared.axis.Axis.{Axis}
 use Rattle.bus_shapes.specs.declared.axis.Unit.TheVariants.{BitTimes, Microseconds}
 use Rattle.bus_shapes.specs.Axes.{axis_text}
 use Rattle.bus_shapes.specs.declared.class.Class.{Class}
-use Rattle.bus_shapes.specs.declared.class.Class.TheVariants.{Breach, Detail, Fault, Garbled, Grid}
-use Rattle.bus_shapes.specs.declared.class.Class.TheVariants.{Mark, Note, Other, Small, Tick, Unobserved, Wordstring}
-use Rattle.bus_findings.specs.Terminals.{fault_sum}
-use Rattle.bus_shapes.specs.declared.counts.Counts.{Counts}
+use Rattle.bus_shapes.specs.declared.class.Class.TheVariants.{Breach, Detail, Grid}
+use Rattle.bus_shapes.specs.declared.class.Class.TheVariants.{Mark, Note, Small, Tick}
 use Rattle.bus_shapes.specs.Frames.{frame_text, tail_text}
 use Rattle.bus_shapes.specs.Numbers.{parted}
 use Rattle.bus_shapes.specs.declared.told.Told.{Told}
-use Rattle.bus_shapes.specs.declared.told.Told.TheVariants.{Audit, OnCable, Findings}
 use Rattle.bus_shapes.specs.declared.scale.Scale.{Scale}
 use Rattle.bus_shapes.specs.Scales.{place}
 use Rattle.bus_shapes.specs.declared.area.Area.{Area}
@@ -29,19 +26,26 @@ use Rattle.bus_cycles.specs.Cuts.{seen_of}
 use Rattle.bus_cycles.specs.Rows.{Extent, cycle_of, rows}
 use Rattle.bus_cycles.specs.Sents.{shown}
 use Rattle.bus_cycles.specs.Pages.{Page, bottom_of, page_of, top_of}
-use Rattle.bus_cycles.specs.Dues.{dues_text}
+use Rattle.bus_cycles.specs.Dues.{begins_in, dues_text}
+use Rattle.bus_cycles.specs.Listings.{Listed, listed_of}
+use Rattle.bus_cycles.specs.Legends.{legend_text}
 use Rattle.bus_cycles.specs.Faults.{faults_text}
 use Rattle.bus_cycles.specs.Loads.{loads_text}
 use Rattle.bus_cycles.specs.RowTexts.{line_of, pixel, rows_text}
 use Rattle.bus_cycles.specs.Surveys.{Survey, breach_in, counts, is_drawn, most_rows, survey_of}
-use Rattle.bus_cycles.specs.Measures.{before_mark, behind_mark, breach_below, breach_box_left, breach_height, breach_left, breach_over}
-use Rattle.bus_cycles.specs.Measures.{breach_width, breach_words_left, due_box_left, due_width, due_words_left, ends_left, even_left}
-use Rattle.bus_cycles.specs.Measures.{fault_width, foot_height}
-use Rattle.bus_cycles.specs.Measures.{garbled_left, garbled_words_left}
-use Rattle.bus_cycles.specs.Measures.{least_words_line, legend_height, legend_line, legend_top, legend_width}
-use Rattle.bus_cycles.specs.Measures.{line_width, load_right, long_foot, long_picture}
-use Rattle.bus_cycles.specs.Measures.{lower_foot, lower_top, lower_words, mark_words_line, marks_top, odd_left, open_box_left, open_words_left}
-use Rattle.bus_cycles.specs.Measures.{rows_line, sent_words_left, tick_height, ticks_foot, upper_foot, upper_ticks, upper_words}
+use Rattle.bus_cycles.specs.declared.measures.TheConstants.{BEFORE_MARK as before_mark, BEHIND_MARK as behind_mark}
+use Rattle.bus_cycles.specs.declared.measures.TheConstants.{BREACH_BELOW as breach_below, BREACH_HEIGHT as breach_height}
+use Rattle.bus_cycles.specs.declared.measures.TheConstants.{BREACH_LEFT as breach_left, BREACH_OVER as breach_over}
+use Rattle.bus_cycles.specs.declared.measures.TheConstants.{BREACH_WIDTH as breach_width, ENDS_LEFT as ends_left}
+use Rattle.bus_cycles.specs.declared.measures.TheConstants.{FOOT_HEIGHT as foot_height}
+use Rattle.bus_cycles.specs.declared.measures.TheConstants.{LEAST_WORDS_LINE as least_words_line}
+use Rattle.bus_cycles.specs.declared.measures.TheConstants.{LINE_WIDTH as line_width, LOAD_RIGHT as load_right, LONG_FOOT as long_foot}
+use Rattle.bus_cycles.specs.declared.measures.TheConstants.{LONG_PICTURE as long_picture}
+use Rattle.bus_cycles.specs.declared.measures.TheConstants.{LOWER_FOOT as lower_foot, LOWER_TOP as lower_top, LOWER_WORDS as lower_words}
+use Rattle.bus_cycles.specs.declared.measures.TheConstants.{MARK_WORDS_LINE as mark_words_line, MARKS_TOP as marks_top}
+use Rattle.bus_cycles.specs.declared.measures.TheConstants.{ROWS_LINE as rows_line, TICK_HEIGHT as tick_height, TICKS_FOOT as ticks_foot}
+use Rattle.bus_cycles.specs.declared.measures.TheConstants.{UPPER_FOOT as upper_foot, UPPER_TICKS as upper_ticks}
+use Rattle.bus_cycles.specs.declared.measures.TheConstants.{UPPER_WORDS as upper_words}
 
 -- ---- the plot
 -- Whether the rows reach so far down that axes stand below them too.
@@ -56,24 +60,24 @@ height_of page = bottom_of page + (if is_long page then long_foot else foot_heig
 -- Where the next row begins that isn't drawn.
 abbrev pub next_words : Option ℕ → List ℕ
 next_words None = []
-next_words (Some begin) = codes ", the next at " ++ parted (decimal begin)
+next_words (Some begin) = codes ", next at " ++ parted (decimal begin)
 
--- How long those rows are that are whole, drawn or not: how many these are, the least length and the greatest.
+-- How many rows are whole, drawn or not, and how far behind the begin of one its last transmission ends, at least and at most.
 abbrev pub whole_words : Survey → List ℕ
 whole_words survey =
-    codes "; " ++ parted (decimal survey.whole) ++ codes " whole, " ++ parted (decimal survey.least) ++ codes " to "
-    ++ parted (decimal survey.most) ++ codes " bit times long"
+    codes "; " ++ parted (decimal survey.whole) ++ codes " whole, their last ends " ++ parted (decimal survey.least) ++ codes " to "
+    ++ parted (decimal survey.most) ++ codes " bit times behind their begins"
 
 -- The same where there are rows.
 abbrev pub lengths_words : Survey → List ℕ
 lengths_words survey =
     if survey.count == 0 then [] else (if survey.whole == 0 then codes "; none whole" else whole_words survey)
 
--- How many rows are drawn of how many, how long the whole ones are, and where the next begins.
+-- How many rows are drawn of how many, where the next begins, and where the last of those ends that are whole.
 abbrev pub row_words : Survey → List ℕ
 row_words survey =
-    codes "a row for each cycle, from where it begins: " ++ parted (decimal (min survey.count most_rows)) ++ codes " of "
-    ++ parted (decimal survey.count) ++ lengths_words survey ++ next_words survey.next
+    codes "a row for each cycle, from its begin: " ++ parted (decimal (min survey.count most_rows)) ++ codes " of "
+    ++ parted (decimal survey.count) ++ next_words survey.next ++ lengths_words survey
 
 -- The axis of microseconds.
 abbrev pub upper_axis : Axis
@@ -104,72 +108,13 @@ below_text page = if is_long page then axes_below page.scale (bottom_of page) el
 abbrev pub axes_text : Page → List ℕ
 axes_text page = axis_text page.scale upper_axis ++ axis_text page.scale (lower_axis_to (bottom_of page))
 
--- ---- the legend
--- A box of the legend, this wide.
-abbrev pub legend_box : Class → ℕ → ℕ → List ℕ
-legend_box class left width = box_text class (record { left = left; top = legend_top; width = width; height = legend_height })
-
--- The box and the word of a mark.
-abbrev pub marking : Class → ℕ → List ℕ → List ℕ
-marking class width word = legend_box class breach_box_left width ++ words_text Small breach_words_left legend_line word
-
--- What plain boxes mean, where there are some.
-abbrev pub plain_legend : Counts → List ℕ
-plain_legend counts =
-    if nat_lt counts.garbled counts.shown
-    then legend_box Other even_left legend_width ++ legend_box Wordstring odd_left legend_width
-    ++ words_text Small sent_words_left legend_line (codes "sent by the terminal of this number")
-    else []
-
--- What hatched boxes mean, where there are some.
-abbrev pub garbled_legend : Counts → List ℕ
-garbled_legend counts =
-    if nat_lt 0 counts.garbled
-    then legend_box Garbled garbled_left legend_width
-    ++ words_text Small garbled_words_left legend_line (codes "garbled: another overlaps it")
-    else []
-
--- What the mark of a breach means, where one is drawn in this row.
-abbrev pub breach_legend : Option Extent → List ℕ
-breach_legend None = []
-breach_legend (Some row) = if is_drawn row.place then marking Breach breach_width (codes "first breach") else []
-
--- What the mark of a fault means, where there are so many.
-abbrev pub fault_legend : ℕ → List ℕ
-fault_legend faults = if nat_lt 0 faults then marking Fault fault_width (codes "fault") else []
-
--- What the mark means of the first breach of an audit, or of a fault among findings.
-abbrev pub mark_legend : Survey → Told → List ℕ
-mark_legend survey (Audit answer) = breach_legend survey.marked
-mark_legend survey (OnCable garbled) = []
-mark_legend survey (Findings bounds judgements garbled) = fault_legend (fault_sum judgements.items)
-
--- What it means that a row is drawn open, where one is cut.
-abbrev pub open_legend : Survey → List ℕ
-open_legend survey =
-    if nat_lt survey.whole survey.count
-    then legend_box Unobserved open_box_left legend_width
-    ++ words_text Small open_words_left legend_line (codes "cut: the cycle isn't seen whole")
-    else []
-
--- What the line of an offset means, in periodic mode.
-abbrev pub due_legend : Mode → List ℕ
-due_legend Aperiodic = []
-due_legend Periodic =
-    legend_box Tick due_box_left due_width ++ words_text Small due_words_left legend_line (codes "offset: a start is due")
-
--- What boxes and lines mean, as far as there are such ones.
-abbrev pub legend_text : Page → Survey → Counts → Told → List ℕ
-legend_text page survey counts told =
-    plain_legend counts ++ garbled_legend counts ++ mark_legend survey told ++ open_legend survey ++ due_legend page.cycle.mode
-
 -- What stands above the rows.
-abbrev pub above_text : Page → Survey → Counts → Told → List ℕ
-above_text page survey counts told =
-    words_text Small left_margin rows_line (row_words survey) ++ legend_text page survey counts told ++ axes_text page
+abbrev pub above_text : Page → Survey → Listed → List ℕ
+above_text page survey listed =
+    words_text Small left_margin rows_line (row_words survey) ++ legend_text listed ++ axes_text page
     ++ words_text Small left_margin mark_words_line (codes "cycle, its begin")
     ++ words_text Small ends_left lower_words (codes "first-last")
-    ++ words_text Detail right_margin lower_words (codes "length") ++ words_text Detail load_right lower_words (codes "load")
+    ++ words_text Detail right_margin lower_words (codes "last end") ++ words_text Detail load_right lower_words (codes "load")
 
 -- ---- marks
 -- A line over all rows, at a distance from their beginning.
@@ -250,12 +195,27 @@ breach_text page (Some moment) None = []
 breach_text page (Some moment) (Some row) = breach_in_row page moment row
 
 -- ---- the whole
--- The picture of a window of a trace on a table in this frame, given what is told of its rows, and what these go by.
+-- The moments at which the rows of a window begin in which starts may be due.
+abbrev pub begins : Window → Table → Recording → List ℕ
+begins window table trace = begins_in table.mode (rows table window trace.list)
+
+-- What the legend lists of them.
+abbrev pub listed_in : Page → Survey → Window → Told → Table → Recording → Listed
+listed_in page survey window told table trace =
+    listed_of page survey told table trace.holds (begins window table trace) (rows table window trace.list)
+
+-- What lies under all rows but the marks of the table: the frame, what stands above the rows, and the lines of offsets.
+abbrev pub under_rows : List ℕ → Page → Survey → Window → Told → Table → Recording → List ℕ
+under_rows frame page survey window told table trace =
+    frame ++ above_text page survey (listed_in page survey window told table trace)
+    ++ dues_text page table trace.holds (begins window table trace)
+
+-- The picture of a window of a trace on a table in this frame, given what is told of its rows, and what these go by: the marks of the table
+-- lie under the rows.
 abbrev pub framed : List ℕ → Page → Survey → Window → TableVerdict → Told → Table → Recording → List ℕ
 framed frame page survey window verdict told table trace =
-    frame ++ above_text page survey (counts window trace) told ++ dues_text page table
-    ++ rows_text page (rows table window trace.list) ++ loads_text page trace.list (rows table window trace.list)
-    ++ marks_text page table verdict ++ below_text page
+    under_rows frame page survey window told table trace ++ marks_text page table verdict
+    ++ rows_text page (rows table window trace.list) ++ loads_text page trace.list (rows table window trace.list) ++ below_text page
     ++ breach_text page (breach_in window told) survey.marked ++ faults_text page told (rows table window trace.list) ++ tail_text
 
 -- The picture in its frame, given these.
@@ -265,7 +225,8 @@ text_of page survey window verdict told table trace =
 
 -- What is told of the rows of a window of a trace.
 abbrev pub survey_in : Window → Told → Table → Recording → Survey
-survey_in window told table trace = survey_of (cycle_of table) (seen_of (counts window trace)) (breach_in window told) (shown window trace.list)
+survey_in window told table trace =
+    survey_of (cycle_of table) (seen_of (counts window trace)) (breach_in window told) (shown window trace.list)
 
 -- What these go by.
 abbrev pub page_in : Window → Told → Table → Recording → Page

@@ -1,5 +1,5 @@
 -- The faults of a recording: each marked at the start of its transmission, in the row of that. A unit is a tenth of a pixel.
-use Rattle.std.specs.Prelude.{ℕ, ◌+◌, ◌-◌, Bool, false, List, [], ◌++◌, codes, slice_get, Option, if◌then◌else◌}
+use Rattle.std.specs.Prelude.{ℕ, ◌+◌, ◌-◌, Bool, false, ◌&&◌, List, [], ◌++◌, codes, slice_get, Option, if◌then◌else◌}
 use Rattle.std.specs.List.{flat_map, list_any}
 use Rattle.std.specs.Option.{option_map_or}
 use Rattle.bus_findings.specs.declared.judgement.Judgement.{Judgement}
@@ -11,10 +11,12 @@ use Rattle.bus_shapes.specs.declared.sent.Sent.{Sent}
 use Rattle.bus_shapes.specs.declared.told.Told.{Told}
 use Rattle.bus_shapes.specs.declared.told.Told.TheVariants.{Audit, OnCable, Findings}
 use Rattle.bus_shapes.specs.Shapes.{titled_text, words_text}
-use Rattle.bus_cycles.specs.Measures.{breach_left, fault_height, fault_width}
+use Rattle.bus_cycles.specs.declared.measures.TheConstants.{BREACH_LEFT as breach_left, FAULT_HEIGHT as fault_height}
+use Rattle.bus_cycles.specs.declared.measures.TheConstants.{FAULT_WIDTH as fault_width}
 use Rattle.bus_cycles.specs.Pages.{Page, top_of}
 use Rattle.bus_cycles.specs.Rows.{Row}
 use Rattle.bus_cycles.specs.RowTexts.{left_of, line_of, where_drawn}
+use Rattle.bus_cycles.specs.Surveys.{is_drawn}
 
 -- ---- where a mark is
 -- A part of a mark, with this upper edge.
@@ -54,6 +56,14 @@ fault_text page found row begin sent = where_drawn row (fault_of page row begin 
 -- Whether a fault is found at a transmission.
 abbrev pub has_fault : List Judgement → Sent → Bool
 has_fault found sent = option_map_or is_faulty (slice_get found sent.at) false
+
+-- Whether a fault is marked in a row: it is drawn, and one is found at a transmission of it.
+abbrev pub is_marked : List Judgement → Row → Bool
+is_marked found row = is_drawn row.place && list_any (has_fault found) row.sents
+
+-- Whether one is marked in one of these rows.
+abbrev pub any_marked : List Judgement → List Row → Bool
+any_marked found rows = list_any (is_marked found) rows
 
 -- A row with a fault has a word behind its boxes, where that of a breach stands.
 abbrev pub fault_word : Page → ℕ → Bool → List ℕ

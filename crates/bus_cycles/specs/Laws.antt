@@ -1,5 +1,5 @@
 -- What follows of the definitions. The contracts of `laws` say that each of these holds.
-use Rattle.std.specs.Prelude.{◌≡◌, ◌≢◌, ◌⊎◌, ◌↔◌, ℕ, ◌+◌, ◌-◌, ◌*◌, ◌/◌, ◌<◌, ◌≤◌, Bool, true, false, not, IsTrue, List, [], ◌∷◌, ◌++◌, length}
+use Rattle.std.specs.Prelude.{◌≡◌, ◌≢◌, ◌⊎◌, ◌↔◌, ℕ, ◌+◌, ◌-◌, ◌<◌, ◌≤◌, Bool, true, false, not, IsTrue, List, [], ◌∷◌, ◌++◌, length}
 use Rattle.std.specs.Prelude.{slice_get, filter, Option, Some, if◌then◌else◌, ⊤}
 use Rattle.std.specs.List.{AllByRecursion, count_by, flat_map, sum_by}
 use Rattle.bus_strings.specs.Members.{In}
@@ -7,13 +7,10 @@ use Rattle.bus_strings.specs.Messages.{Entry}
 use Rattle.bus_strings.specs.Transmissions.{garbled}
 use Rattle.bus_table.specs.declared.mode.Mode.TheVariants.{Aperiodic, Periodic}
 use Rattle.bus_table.specs.Tables.{Sender, Table}
-use Rattle.bus_table.specs.Timers.{due_of}
 use Rattle.bus_table.specs.Turns.{turn_order}
 use Rattle.bus_table.specs.Valid.{is_valid}
 use Rattle.bus_trace.specs.Traces.{Recording, IsTrace}
 use Rattle.bus_shapes.specs.Classes.{is_hatched}
-use Rattle.bus_shapes.specs.declared.class.Class.TheVariants.{Tick}
-use Rattle.bus_shapes.specs.Shapes.{box_text}
 use Rattle.bus_shapes.specs.declared.sent.Sent.{Sent}
 use Rattle.bus_shapes.specs.declared.area.Area.{Area}
 use Rattle.bus_shapes.specs.declared.counts.Counts.{Counts}
@@ -26,10 +23,9 @@ use Rattle.bus_audit.specs.declared.answer.AuditAnswer.TheVariants.{Lawful}
 use Rattle.bus_regime.specs.declared.table_verdict.TableVerdict.{TableVerdict}
 use Rattle.bus_shapes.specs.declared.told.Told.TheVariants.{Audit, OnCable}
 use Rattle.bus_cycles.specs.CyclesTexts.{framed_in, part_above, part_below}
-use Rattle.bus_cycles.specs.Dues.{due_line, dues_text}
 use Rattle.bus_cycles.specs.Faults.{fault_at, faults_of, lower_part, upper_part}
 use Rattle.bus_cycles.specs.Loads.{busy_of, whole_of}
-use Rattle.bus_cycles.specs.Measures.{breach_left}
+use Rattle.bus_cycles.specs.declared.measures.TheConstants.{BREACH_LEFT as breach_left}
 use Rattle.bus_cycles.specs.Pages.{Page, page_of, scale_of, top_of}
 use Rattle.bus_cycles.specs.Cuts.{Seen, is_cut_before, is_cut_behind, is_whole}
 use Rattle.bus_cycles.specs.Rows.{Cycle, Extent, Row, cycle_of, extent_of, interval_of, rows, takes}
@@ -260,19 +256,6 @@ WholeAreSeen =
     → IsTrue (is_valid table) → table.mode ≡ Aperiodic → In row (rows table window list) → row.sents ≡ first ∷ others
     → IsTrue (is_whole (cycle_of table) seen (extent_of row))
     → (0 < first.before) × (first.before + table.sg ≤ first.moment) × ((extent_of row).end + table.sg ≤ seen.to)
-
--- In periodic mode each sender has a line at the place of the moment at which it is due, counted from the beginning of a row; and there the
--- box of a transmission begins, on a whole pixel, that begins when it is due.
-abbrev pub DuesAreMarked : Type 0
-DuesAreMarked =
-    (table : Table) (survey : Survey) (counts : Counts) (sender : Sender) → In sender table.senders → table.mode ≡ Periodic
-    → IsPartOf (box_text Tick (due_line (page_of table survey counts) (due_of table sender))) (dues_text (page_of table survey counts) table)
-
-abbrev pub BoxesBeginWhereDue : Type 0
-BoxesBeginWhereDue =
-    (table : Table) (survey : Survey) (counts : Counts) (sender : Sender) (begin : ℕ) (sent : Sent) → table.mode ≡ Periodic
-    → sent.moment ≡ begin + due_of table sender
-    → left_of (page_of table survey counts) begin sent ≡ (due_line (page_of table survey counts) (due_of table sender)).left / 10 * 10
 
 -- A row says which terminals send the first and the last of its transmissions.
 abbrev pub EndsAreNamed : Type 0

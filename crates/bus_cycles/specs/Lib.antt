@@ -10,6 +10,9 @@ pub mod RowTexts
 pub mod Loads
 pub mod Faults
 pub mod Dues
+pub mod Listings
+pub mod Legends
 pub mod CyclesTexts
 pub mod Laws
+pub mod PictureLaws
 pub mod inside

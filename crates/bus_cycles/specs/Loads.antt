@@ -9,7 +9,7 @@ use Rattle.bus_table.specs.declared.mode.Mode.TheVariants.{Aperiodic, Periodic}
 use Rattle.bus_shapes.specs.declared.class.Class.TheVariants.{Detail}
 use Rattle.bus_shapes.specs.Numbers.{load_words}
 use Rattle.bus_shapes.specs.Shapes.{words_text}
-use Rattle.bus_cycles.specs.Measures.{load_right}
+use Rattle.bus_cycles.specs.declared.measures.TheConstants.{LOAD_RIGHT as load_right}
 use Rattle.bus_cycles.specs.Pages.{Page}
 use Rattle.bus_cycles.specs.Rows.{Cycle, Extent, Row, extent_of}
 use Rattle.bus_cycles.specs.RowTexts.{line_of, where_drawn}

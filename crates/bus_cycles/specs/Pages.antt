@@ -5,7 +5,8 @@ use Rattle.bus_shapes.specs.declared.counts.Counts.{Counts}
 use Rattle.bus_shapes.specs.declared.scale.Scale.{Scale}
 use Rattle.bus_cycles.specs.Cuts.{seen_of}
 use Rattle.bus_cycles.specs.Lanes.{lanes_of}
-use Rattle.bus_cycles.specs.Measures.{plain_row, plot_left, plot_width, rows_top, split_row}
+use Rattle.bus_cycles.specs.declared.measures.TheConstants.{PLAIN_ROW as plain_row, PLOT_LEFT as plot_left, PLOT_WIDTH as plot_width}
+use Rattle.bus_cycles.specs.declared.measures.TheConstants.{ROWS_TOP as rows_top, SPLIT_ROW as split_row}
 use Rattle.bus_cycles.specs.Rows.{cycle_of}
 use Rattle.bus_cycles.specs.Surveys.{Survey, most_rows}
 pub use Rattle.bus_cycles.specs.declared.page.Page.{Page}

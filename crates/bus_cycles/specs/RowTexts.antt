@@ -15,8 +15,13 @@ use Rattle.bus_cycles.specs.Cuts.{is_cut_before, is_cut_behind, is_whole}
 use Rattle.bus_cycles.specs.Rows.{Extent, Row, extent_of}
 use Rattle.bus_cycles.specs.Pages.{Page, top_of}
 use Rattle.bus_cycles.specs.Surveys.{is_drawn, length_of}
-use Rattle.bus_cycles.specs.Measures.{begins_right, box_below, ends_left, long_number, middle_line, middle_number, narrow_box, open_left, open_right}
-use Rattle.bus_cycles.specs.Measures.{open_width, short_number, slot_below, slots}
+use Rattle.bus_cycles.specs.declared.measures.TheConstants.{BEGINS_RIGHT as begins_right, BOX_BELOW as box_below, ENDS_LEFT as ends_left}
+use Rattle.bus_cycles.specs.declared.measures.TheConstants.{LONG_NUMBER as long_number, MIDDLE_LINE as middle_line}
+use Rattle.bus_cycles.specs.declared.measures.TheConstants.{MIDDLE_NUMBER as middle_number, NARROW_BOX as narrow_box}
+use Rattle.bus_cycles.specs.declared.measures.TheConstants.{OPEN_LEFT as open_left, OPEN_RIGHT as open_right}
+use Rattle.bus_cycles.specs.declared.measures.TheConstants.{OPEN_WIDTH as open_width, SHORT_NUMBER as short_number}
+use Rattle.bus_cycles.specs.declared.measures.TheConstants.{SLOT_BELOW as slot_below}
+use Rattle.bus_cycles.specs.Measures.{slots}
 
 -- ---- where a transmission is
 -- The place of a moment in a row that began at this moment, on a whole pixel.

@@ -1,5 +1,6 @@
 -- The rows of a picture: where each begins and ends, and its transmissions.
 use Rattle.std.specs.Prelude.{ℕ, ◌+◌, ◌-◌, ◌*◌, ◌/◌, Bool, not, ◌&&◌, ◌==◌, nat_le, nat_lt, max, min, fold, List, [], ◌∷◌, ◌++◌, if◌then◌else◌}
+use Rattle.std.specs.List.{list_any}
 use Rattle.bus_strings.specs.Messages.{Entry}
 use Rattle.bus_table.specs.declared.mode.Mode.{Mode}
 use Rattle.bus_table.specs.declared.mode.Mode.TheVariants.{Aperiodic, Periodic}
@@ -118,7 +119,15 @@ rows table window list = rows_of (cycle_of table) (shown window list)
 abbrev pub end_of_all : List Sent → ℕ
 end_of_all sents = fold (λ end sent. max end sent.end) 0 sents
 
--- Where a row is.
+-- Whether a row has a plain transmission.
+abbrev pub has_plain : Row → Bool
+has_plain row = list_any (λ (sent : Sent). not sent.garbled) row.sents
+
+-- Whether it has a garbled one.
+abbrev pub has_garbled : Row → Bool
+has_garbled row = list_any (λ (sent : Sent). sent.garbled) row.sents
+
+-- Where a row is, and of which kinds its transmissions are.
 abbrev pub extent_of : Row → Extent
 extent_of row = record {
   place = row.place;
@@ -127,6 +136,8 @@ extent_of row = record {
   first = row.first;
   last = row.last;
   end = end_of_all row.sents;
+  plain = has_plain row;
+  garbled = has_garbled row;
 }
 
 -- Whether a row takes a moment: in periodic mode one of the interval that begins with it, and else one that isn't before its beginning.

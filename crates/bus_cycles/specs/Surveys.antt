@@ -1,5 +1,5 @@
 -- What is told of the rows of a picture before they are drawn.
-use Rattle.std.specs.Prelude.{ℕ, ◌+◌, ◌-◌, Bool, false, ◌==◌, nat_lt}
+use Rattle.std.specs.Prelude.{ℕ, ◌+◌, ◌-◌, Bool, false, not, ◌&&◌, ◌||◌, ◌==◌, nat_lt}
 use Rattle.std.specs.Prelude.{max, min, fold, List, length, map, Option, Some, None, if◌then◌else◌}
 use Rattle.std.specs.List.{count_by}
 use Rattle.bus_audit.specs.declared.answer.AuditAnswer.{AuditAnswer}
@@ -41,7 +41,18 @@ takes_breach cycle (Some moment) row = takes cycle row moment
 
 -- What is told where no row is looked at: a picture is at least as long as a transmit interval.
 abbrev pub nothing : Cycle → Survey
-nothing cycle = record { count = 0; whole = 0; longest = cycle.ti; next = None; marked = None; least = 0; most = 0 }
+nothing cycle = record {
+  count = 0;
+  whole = 0;
+  longest = cycle.ti;
+  next = None;
+  marked = None;
+  least = 0;
+  most = 0;
+  plain = false;
+  garbled = false;
+  cut = false;
+}
 
 -- The length of a row, from the moment at which it begins until the last of its transmissions has ended, given from how long before the
 -- settled start the former is counted.
@@ -76,6 +87,18 @@ least_where cycle seen whole least row = if is_whole cycle seen row then least_w
 abbrev pub most_where : Cycle → Seen → ℕ → Extent → ℕ
 most_where cycle seen most row = if is_whole cycle seen row then max most (length_of cycle.lift row) else most
 
+-- With one row more: whether one that is drawn has a plain transmission.
+abbrev pub plain_with : Bool → Extent → Bool
+plain_with plain row = plain || (is_drawn row.place && row.plain)
+
+-- The same of a garbled one.
+abbrev pub garbled_with : Bool → Extent → Bool
+garbled_with garbled row = garbled || (is_drawn row.place && row.garbled)
+
+-- Whether one that is drawn is cut.
+abbrev pub cut_with : Cycle → Seen → Bool → Extent → Bool
+cut_with cycle seen cut row = cut || (is_drawn row.place && not (is_whole cycle seen row))
+
 -- With one row more: all that is told.
 abbrev pub with_row : Cycle → Seen → Option ℕ → Survey → Extent → Survey
 with_row cycle seen breach survey row = record {
@@ -86,6 +109,9 @@ with_row cycle seen breach survey row = record {
   marked = marked_with cycle breach survey.marked row;
   least = least_where cycle seen survey.whole survey.least row;
   most = most_where cycle seen survey.most row;
+  plain = plain_with survey.plain row;
+  garbled = garbled_with survey.garbled row;
+  cut = cut_with cycle seen survey.cut row;
 }
 
 -- How far the breach is behind the beginning of its row, where that is drawn.
@@ -108,6 +134,9 @@ with_breach lift breach survey = record {
   marked = survey.marked;
   least = survey.least;
   most = survey.most;
+  plain = survey.plain;
+  garbled = survey.garbled;
+  cut = survey.cut;
 }
 
 -- What is told of the rows of transmissions.

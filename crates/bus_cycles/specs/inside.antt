@@ -4,3 +4,5 @@ pub mod Surveying
 pub mod Loading
 pub mod Marking
 pub mod Bounds
+pub mod Beginning
+pub mod Seeking

@@ -36,6 +36,10 @@ pub(crate) struct Extent {
     pub last: u8,
     /// The moment at which all its transmissions have ended.
     pub end: u64,
+    /// Whether one of them is plain.
+    pub plain: bool,
+    /// Whether one of them is garbled.
+    pub garbled: bool,
 }
 
 /// The moment at which the interval began that holds a moment.
@@ -143,6 +147,8 @@ impl Cycle {
             first: sent.terminal,
             last: sent.terminal,
             end: sent.end,
+            plain: !sent.garbled,
+            garbled: sent.garbled,
         }
     }
 
@@ -176,6 +182,8 @@ impl Extent {
             first: self.first,
             last: sent.terminal,
             end: sent.end.max(self.end),
+            plain: self.plain || !sent.garbled,
+            garbled: self.garbled || sent.garbled,
         }
     }
 }

@@ -115,7 +115,7 @@ fn put_fault<K: Sink>(
 }
 
 /// Whether a fault is found at a transmission.
-fn has_fault(judgements: &[Judgement], sent: &Sent) -> bool
+pub(crate) fn has_fault(judgements: &[Judgement], sent: &Sent) -> bool
     ensures { result ≡ definition.has_fault judgements.now sent.now }
 {
     match judgements.get(sent.at) {
@@ -142,7 +142,7 @@ fn put_word<K: Sink>(text: &mut TextBuffer, sink: &mut K, page: &Page, row: u64,
 }
 
 /// Whether a fault is found in a row with one transmission more.
-fn any_with(any: bool, judgements: &[Judgement], sent: &Sent) -> bool
+pub(crate) fn any_with(any: bool, judgements: &[Judgement], sent: &Sent) -> bool
     ensures { result ≡ (any || definition.has_fault judgements.now sent.now) }
 {
     if any {

@@ -4,9 +4,11 @@ ghost use Rattle.bus_cycles.specs.Laws.{BreachHidesNone, BreachIsAtItsMoment, Br
 ghost use Rattle.bus_cycles.specs.Laws.{FaultHidesNone, FaultsAreMarked, NoFaultIsMarked};
 ghost use Rattle.bus_cycles.specs.Laws.{HatchedAreDrawnLast, HatchedAreGarbled, KeptAreDrawn, LeftOutAreCovered, LengthsAreOfRows};
 ghost use Rattle.bus_cycles.specs.Laws.{LoadsAreShares, NeighboursDiffer, RowsAreAPartition, RowsAreCounted, RowsAreCycles};
-ghost use Rattle.bus_cycles.specs.Laws.{BoxesBeginWhereDue, CableIsUnmarked, CutAreOpen, DuesAreMarked, EndsAreNamed};
+ghost use Rattle.bus_cycles.specs.Laws.{CableIsUnmarked, CutAreOpen, EndsAreNamed};
 ghost use Rattle.bus_cycles.specs.Laws.{OpenHidesNone, RowsAreIntervals, RowsAreNumbered, RowsAscend, RowsHaveLengths};
 ghost use Rattle.bus_cycles.specs.Laws.{SlotsAreKept, TheLastRowIsMarked, ThreeLieApart, WholeAreCounted, WholeAreSeen};
+ghost use Rattle.bus_cycles.specs.PictureLaws.{BoxesBeginWhereDue, BreachIsListed, CutAreListed, DuesAreListed, DuesAreMarked};
+ghost use Rattle.bus_cycles.specs.PictureLaws.{FaultsAreListed, GarbledAreListed, MarksHideNoBox, PlainAreListed};
 
 use bus_shapes::laws::places_keep_order;
 
@@ -104,21 +106,23 @@ pub fn fault_hides_none()
     ensures { FaultHidesNone }
 {}
 
-/// No whole row is shorter than the least length that the words above the rows tell, or longer than the greatest.
+/// All transmissions of a whole row have ended no fewer bit times behind the row's begin than the words above the rows tell at least, and no
+/// more than they tell at most.
 pub fn lengths_are_of_rows()
     ensures { LengthsAreOfRows }
 {}
 
-/// Where some row is told to be whole, a whole one has the least length that the words above the rows tell, and one has the greatest. And these
-/// words tell how many rows there are, and how many of them are whole.
+/// Where some row is told to be whole, all transmissions of a whole one have ended as many bit times behind its begin as the words above the
+/// rows tell at least, and those of one as many as they tell at most. And these words tell how many rows there are, and how many of them
+/// are whole.
 pub fn rows_have_lengths()
     ensures lengths { RowsHaveLengths }
     ensures count { RowsAreCounted }
     ensures whole { WholeAreCounted }
 {}
 
-/// In aperiodic mode a whole row has all of its cycle: a synchronization gap or more lies before its first transmission and behind an earlier
-/// one, and one is seen behind its end.
+/// In aperiodic mode a whole row has all of its cycle: a synchronization gap or more lies before its first transmission and behind an
+/// earlier one of the list, and one is seen behind its end.
 pub fn whole_are_seen()
     ensures { WholeAreSeen }
 {}
@@ -131,7 +135,8 @@ pub fn cut_are_open()
     places_keep_order();
 }
 
-/// In periodic mode each sender has a line where it is due in a row, at which the box of a transmission begins that begins then.
+/// In periodic mode each sender has a line where it is due in a row, at which the box of a transmission begins that begins then. The line
+/// goes over exactly those of the drawn rows in which a start of it is due, as often as the trace says that it held a message.
 pub fn dues_are_marked()
     ensures marked { DuesAreMarked }
     ensures boxes { BoxesBeginWhereDue }
@@ -165,4 +170,20 @@ pub fn three_lie_apart()
 /// Where rows take the moment of the first breach, which the window has, one is marked, and none of them begins later.
 pub fn the_last_row_is_marked()
     ensures { TheLastRowIsMarked }
+{}
+
+/// No mark of the table hides a box: in the text all boxes of transmissions come behind these marks, and so lie over them.
+pub fn marks_hide_no_box()
+    ensures { MarksHideNoBox }
+{}
+
+/// The legend lists plain boxes, garbled ones, the first breach, faults, rows that are cut, and offsets, each exactly where one is drawn:
+/// what only rows have that aren't drawn isn't listed.
+pub fn legend_lists_what_is_drawn()
+    ensures plain { PlainAreListed }
+    ensures garbled { GarbledAreListed }
+    ensures breach { BreachIsListed }
+    ensures faults { FaultsAreListed }
+    ensures cut { CutAreListed }
+    ensures dues { DuesAreListed }
 {}

@@ -4,12 +4,14 @@
 //! - [`laws`] has what follows of the definitions.
 //!
 //! The definitions are in `specs/`: `Sents` (the transmissions that begin in a window), `Rows` (where the rows begin, and which
-//! transmissions each has), `Cuts` (which are whole), `Surveys` (what is told of all rows before they are drawn), `Lanes` (by which shades go), `Pages` (what all
-//! rows go by), `RowTexts` (the text of a row), `Loads` (how busy a row is), `Faults` (the marks of faults), `Dues` (those of offsets) and `CyclesTexts` (the text of
-//! the picture). No call takes memory.
+//! transmissions each has), `Cuts` (which are whole), `Surveys` (what is told of all rows before they are drawn), `Lanes` (by which shades
+//! go), `Pages` (what all rows go by), `RowTexts` (the text of a row), `Loads` (how busy a row is), `Faults` (the marks of faults), `Dues`
+//! (the lines of offsets), `Listings` (what the legend lists), `Legends` (its text) and `CyclesTexts` (the text of the picture). No call
+//! takes memory.
 #![tactic(auto)]
 
 mod areas;
+mod begins;
 mod boxes;
 mod breach;
 mod counting;
@@ -19,8 +21,11 @@ mod due;
 mod faults;
 pub mod laws;
 mod legend;
+mod listing;
 mod load;
+mod marked;
 mod measures;
+mod more;
 mod open;
 mod page;
 mod plot;

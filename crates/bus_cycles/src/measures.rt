@@ -1,4 +1,4 @@
-//! The measures of pictures of cycles, in units of a tenth of a pixel. Contracts have them as the words of `specs/Measures`.
+//! The measures of pictures of cycles, in units of a tenth of a pixel. The definitions cite them.
 
 /// The left edge of the rows.
 pub(crate) const PLOT_LEFT: u64 = 1500;

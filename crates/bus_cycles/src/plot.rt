@@ -6,6 +6,7 @@ ghost use Rattle.bus_cycles.specs.CyclesTexts as definition;
 ghost use Rattle.bus_cycles.specs.inside.Bounds.{IsPage};
 
 use crate::legend::put_legend;
+use crate::listing::Listed;
 use crate::measures::{
     BEFORE_MARK, BEHIND_MARK, ENDS_LEFT, FOOT_HEIGHT, LEAST_WORDS_LINE, LINE_WIDTH, LOAD_RIGHT,
     LONG_FOOT, LONG_PICTURE, LOWER_FOOT, LOWER_TOP, LOWER_WORDS, MARK_WORDS_LINE, MARKS_TOP,
@@ -17,8 +18,8 @@ use bus_outer::{Sink, TextBuffer};
 use bus_regime::TableVerdict;
 use bus_shapes::measures::{LEFT_MARGIN, RIGHT_MARGIN};
 use bus_shapes::{
-    Area, Axis, Class, Counts, Scale, Told, Unit, begin_words, end_words, put_axis, put_box,
-    put_parted, put_words,
+    Area, Axis, Class, Scale, Unit, begin_words, end_words, put_axis, put_box, put_parted,
+    put_words,
 };
 use bus_table::{Mode, Table};
 
@@ -48,22 +49,22 @@ fn put_next<K: Sink>(text: &mut TextBuffer, sink: &mut K, next: Option<u64>)
     ensures { Adds K.held K.faults sink.old sink.new text.old text.new (definition.next_words next) }
 {
     if let Some(begin) = next {
-        text.put(sink, b", the next at ");
+        text.put(sink, b", next at ");
         put_parted(text, sink, begin);
     }
 }
 
-/// How long the rows are that are whole.
+/// How many rows are whole, and how far behind their begins the last of their transmissions ends.
 fn put_whole<K: Sink>(text: &mut TextBuffer, sink: &mut K, survey: &Survey)
     ensures { Adds K.held K.faults sink.old sink.new text.old text.new (definition.whole_words survey.now) }
 {
     text.put(sink, b"; ");
     put_parted(text, sink, survey.whole);
-    text.put(sink, b" whole, ");
+    text.put(sink, b" whole, their last ends ");
     put_parted(text, sink, survey.least);
     text.put(sink, b" to ");
     put_parted(text, sink, survey.most);
-    text.put(sink, b" bit times long");
+    text.put(sink, b" bit times behind their begins");
 }
 
 /// The same where there are rows.
@@ -80,16 +81,16 @@ fn put_lengths<K: Sink>(text: &mut TextBuffer, sink: &mut K, survey: &Survey)
     }
 }
 
-/// How many rows are drawn of how many, how long the whole ones are, and where the next begins.
+/// How many rows are drawn of how many, where the next begins, and where the last of those ends that are whole.
 fn put_row_words<K: Sink>(text: &mut TextBuffer, sink: &mut K, survey: &Survey)
     ensures { Adds K.held K.faults sink.old sink.new text.old text.new (definition.row_words survey.now) }
 {
-    text.put(sink, b"a row for each cycle, from where it begins: ");
+    text.put(sink, b"a row for each cycle, from its begin: ");
     put_parted(text, sink, survey.count.min(MOST_ROWS));
     text.put(sink, b" of ");
     put_parted(text, sink, survey.count);
-    put_lengths(text, sink, survey);
     put_next(text, sink, survey.next);
+    put_lengths(text, sink, survey);
 }
 
 /// The axes.
@@ -155,17 +156,16 @@ pub(crate) fn put_above<K: Sink>(
     sink: &mut K,
     page: &Page,
     survey: &Survey,
-    counts: &Counts,
-    told: &Told,
+    listed: Listed,
 )
     requires { IsPage page.now }
     ensures { Adds K.held K.faults sink.old sink.new text.old text.new
-        (definition.above_text page.now survey.now counts.now told.now) }
+        (definition.above_text page.now survey.now listed) }
 {
     begin_words(text, sink, Class::Small, LEFT_MARGIN, ROWS_LINE);
     put_row_words(text, sink, survey);
     end_words(text, sink);
-    put_legend(text, sink, page, survey, counts, told);
+    put_legend(text, sink, listed);
     put_axes(text, sink, page);
     put_words(
         text,
@@ -189,7 +189,7 @@ pub(crate) fn put_above<K: Sink>(
         Class::Detail,
         RIGHT_MARGIN,
         LOWER_WORDS,
-        b"length",
+        b"last end",
     );
     put_words(text, sink, Class::Detail, LOAD_RIGHT, LOWER_WORDS, b"load");
 }

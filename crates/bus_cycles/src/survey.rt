@@ -5,8 +5,12 @@ ghost use Rattle.bus_cycles.specs.Sents.{shown};
 ghost use Rattle.bus_cycles.specs.inside.Bounds.{IsSeen, IsSent};
 ghost use Rattle.bus_cycles.specs.Surveys as definition;
 
-use crate::cut::{Seen, is_whole};
+use crate::cut::Seen;
 use crate::cycle::{Cycle, Extent};
+use crate::more::{
+    cut_with, garbled_with, least_where, longest_with, marked_with, most_where, next_with,
+    plain_with, reach_of, whole_with,
+};
 use crate::shown::Shown;
 use bus_audit::AuditAnswer;
 use bus_shapes::{Sent, Told};
@@ -28,10 +32,16 @@ pub(crate) struct Survey {
     pub marked: Option<Extent>,
     /// How many of them are whole.
     pub whole: u64,
-    /// The length of the shortest whole row in bit times, drawn or not; 0 where there is none.
+    /// How many bit times behind its begin the last transmission of a whole row ends, drawn or not, at least; 0 where there is none.
     pub least: u64,
-    /// The length of the longest whole row in bit times, drawn or not; 0 where there is none.
+    /// The same at most.
     pub most: u64,
+    /// Whether a row that is drawn has a plain transmission.
+    pub plain: bool,
+    /// Whether one has a garbled one.
+    pub garbled: bool,
+    /// Whether one is cut.
+    pub cut: bool,
 }
 
 /// The moment of the first breach that an audit found, where there is one that the window holds.
@@ -72,6 +82,9 @@ impl Survey {
             marked: None,
             least: 0,
             most: 0,
+            plain: false,
+            garbled: false,
+            cut: false,
         }
     }
 
@@ -94,6 +107,9 @@ impl Survey {
             marked: marked_with(cycle, breach, self.marked, row),
             least: least_where(cycle, seen, self.whole, self.least, row),
             most: most_where(cycle, seen, self.most, row),
+            plain: plain_with(self.plain, row),
+            garbled: garbled_with(self.garbled, row),
+            cut: cut_with(cycle, seen, self.cut, row),
         }
     }
 
@@ -113,6 +129,9 @@ impl Survey {
             marked: self.marked,
             least: self.least,
             most: self.most,
+            plain: self.plain,
+            garbled: self.garbled,
+            cut: self.cut,
         }
     }
 }
@@ -123,141 +142,6 @@ pub(crate) fn length_of(lift: u32, row: Extent) -> u64
     ensures { result ≡ definition.length_of lift row }
 {
     (row.end + u64::from(lift)).saturating_sub(row.begin)
-}
-
-/// How many rows are whole, with one row more.
-fn whole_with(cycle: &Cycle, seen: Seen, whole: u64, row: Extent) -> u64
-    requires seen { IsSeen seen }
-    requires few { whole < 2 ^ 64 - 1 }
-    requires begin { row.begin ≤ 2 ^ 42 }
-    requires low { row.end ≤ 2 ^ 41 }
-    ensures { result ≡ definition.whole_with cycle.now seen whole row }
-{
-    if is_whole(cycle, seen, row) {
-        whole + 1
-    } else {
-        whole
-    }
-}
-
-/// The least length, with one whole row more than so many.
-fn least_with(lift: u32, whole: u64, least: u64, row: Extent) -> u64
-    requires { row.end ≤ 2 ^ 41 }
-    ensures { result ≡ definition.least_with lift whole least row }
-{
-    if whole == 0 {
-        length_of(lift, row)
-    } else {
-        least.min(length_of(lift, row))
-    }
-}
-
-/// The least length of whole rows, with one row more.
-fn least_where(cycle: &Cycle, seen: Seen, whole: u64, least: u64, row: Extent) -> u64
-    requires seen { IsSeen seen }
-    requires begin { row.begin ≤ 2 ^ 42 }
-    requires low { row.end ≤ 2 ^ 41 }
-    ensures { result ≡ definition.least_where cycle.now seen whole least row }
-{
-    if is_whole(cycle, seen, row) {
-        least_with(cycle.lift, whole, least, row)
-    } else {
-        least
-    }
-}
-
-/// The greatest length of whole rows, with one row more.
-fn most_where(cycle: &Cycle, seen: Seen, most: u64, row: Extent) -> u64
-    requires seen { IsSeen seen }
-    requires begin { row.begin ≤ 2 ^ 42 }
-    requires low { row.end ≤ 2 ^ 41 }
-    ensures { result ≡ definition.most_where cycle.now seen most row }
-{
-    if is_whole(cycle, seen, row) {
-        most.max(length_of(cycle.lift, row))
-    } else {
-        most
-    }
-}
-
-/// The length of the longest row that is drawn, with one row more.
-fn longest_with(lift: u32, longest: u64, row: Extent) -> u64
-    requires { row.end ≤ 2 ^ 41 }
-    ensures { result ≡ definition.longest_with lift longest row }
-{
-    if row.place < MOST_ROWS {
-        longest.max(length_of(lift, row))
-    } else {
-        longest
-    }
-}
-
-/// The moment at which the first row begins that isn't drawn, with one row more.
-fn next_with(lift: u32, next: Option<u64>, row: Extent) -> Option<u64>
-    ensures { result ≡ definition.next_with lift next row }
-{
-    if row.place == MOST_ROWS {
-        Some(row.begin.saturating_sub(u64::from(lift)))
-    } else {
-        next
-    }
-}
-
-/// Whether a row takes the breach at this moment.
-fn takes_breach(cycle: &Cycle, breach: Option<u64>, row: Extent) -> bool
-    requires some { 0 < cycle.now.ti }
-    requires moment { IfSome breach (λ moment. moment ≤ 2 ^ 40) }
-    ensures { result ≡ definition.takes_breach cycle.now breach row }
-{
-    match breach {
-        Some(moment) => cycle.takes(row, moment),
-        None => false,
-    }
-}
-
-/// The last row that takes the breach, with one row more.
-fn marked_with(
-    cycle: &Cycle,
-    breach: Option<u64>,
-    marked: Option<Extent>,
-    row: Extent,
-) -> Option<Extent>
-    requires some { 0 < cycle.now.ti }
-    requires moment { IfSome breach (λ moment. moment ≤ 2 ^ 40) }
-    ensures { result ≡ definition.marked_with cycle.now breach marked row }
-{
-    if takes_breach(cycle, breach, row) {
-        Some(row)
-    } else {
-        marked
-    }
-}
-
-/// How far the breach is behind the beginning of its row, where that is drawn.
-fn reach_in(lift: u32, moment: u64, row: Extent) -> u64
-    requires { moment ≤ 2 ^ 40 }
-    ensures value { result ≡ definition.reach_in lift moment row }
-    ensures low { result ≤ 2 ^ 41 }
-{
-    if row.place < MOST_ROWS {
-        (moment + u64::from(lift)).saturating_sub(row.begin)
-    } else {
-        0
-    }
-}
-
-/// How far the breach at this moment is behind the beginning of the row that is marked, where there are both.
-fn reach_of(lift: u32, breach: Option<u64>, marked: Option<Extent>) -> u64
-    requires { IfSome breach (λ moment. moment ≤ 2 ^ 40) }
-    ensures value { result ≡ definition.reach_of lift breach marked }
-    ensures low { result ≤ 2 ^ 41 }
-{
-    if let Some(moment) = breach {
-        if let Some(row) = marked {
-            return reach_in(lift, moment, row);
-        }
-    }
-    0
 }
 
 /// What is told of the rows of a transmission and those behind it.

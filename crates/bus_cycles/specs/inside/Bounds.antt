@@ -2,7 +2,7 @@
 use Rattle.std.specs.Prelude.{◌<◌, ◌≤◌, ◌+◌, ◌^◌}
 use Rattle.bus_shapes.specs.Scales.{IsScale}
 use Rattle.bus_shapes.specs.declared.sent.Sent.{Sent}
-use Rattle.bus_cycles.specs.Measures.{plain_row, plot_left, split_row}
+use Rattle.bus_cycles.specs.declared.measures.TheConstants.{PLAIN_ROW as plain_row, PLOT_LEFT as plot_left, SPLIT_ROW as split_row}
 use Rattle.bus_cycles.specs.Surveys.{most_rows}
 use Rattle.bus_cycles.specs.declared.cut.Seen.{Seen}
 use Rattle.bus_cycles.specs.declared.page.Page.{Page}

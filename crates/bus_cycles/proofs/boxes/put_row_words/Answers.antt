@@ -1,10 +1,10 @@
-use Rattle.std.proofs.Common.{ℕ, ◌+◌, List, ◌++◌, ap, subst, ◌∙◌}
+use Rattle.std.proofs.Common.{ℕ, ◌+◌, List, ◌++◌, ap, subst}
 use Rattle.std.specs.Prelude.{decimal}
 use Rattle.bus_outer.specs.Texts.{Adds}
 use Rattle.bus_outer.proofs.TextLaws.{◌▸◌}
 use Rattle.bus_shapes.specs.declared.class.Class.TheVariants.{Detail, Small}
 use Rattle.bus_shapes.specs.Shapes.{words_text}
-use Rattle.bus_cycles.specs.RowTexts.{begin_words, length_words, line_of}
+use Rattle.bus_cycles.specs.RowTexts.{begin_words, length_words}
 use Rattle.bus_cycles.proofs.boxes.put_row_words.Goals as goal
 
 pub returns : goal.returns

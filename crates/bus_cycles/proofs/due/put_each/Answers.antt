@@ -7,6 +7,6 @@ use Rattle.bus_cycles.proofs.due.put_each.Goals as goal
 
 pub loop-sender-preserved : goal.loop-sender-preserved
 loop-sender-preserved g c =
-    let next = flat_map-take (due_text c.args.page.now) c.args.senders.now c.loop-sender.sender-index c.sender-item.result c.loop-sender-test.true c.sender-item.is in
+    let next = flat_map-take (due_text c.args.page.now c.args.holds.now c.args.begins.now) c.args.senders.now c.loop-sender.sender-index c.sender-item.result c.loop-sender-test.true c.sender-item.is in
     subst (λ (t : List ℕ). Adds g.K.Sink.held g.K.Sink.faults c.args.sink.now c.put_due.new.sink c.args.text.now c.put_due.new.text t) (sym next)
     (c.loop-sender.invariant ▸ c.put_due.ensures)

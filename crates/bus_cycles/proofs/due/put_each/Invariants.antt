@@ -5,4 +5,4 @@ use Rattle.bus_cycles.proofs.due.put_each.Given as goal
 
 abbrev pub invariant-loop-sender : goal.invariant-loop-sender
 invariant-loop-sender g l =
-    Adds g.K.Sink.held g.K.Sink.faults l.fn.sink l.sink l.fn.text l.text (each_due l.page (take l.sender-index l.senders))
+    Adds g.K.Sink.held g.K.Sink.faults l.fn.sink l.sink l.fn.text l.text (each_due l.page l.holds l.begins (take l.sender-index l.senders))

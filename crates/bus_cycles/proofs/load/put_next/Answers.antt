@@ -1,4 +1,4 @@
-use Rattle.std.proofs.Common.{List, ℕ, true, sym, subst, ◌∙◌}
+use Rattle.std.proofs.Common.{List, ℕ, sym, subst, ◌∙◌}
 use Rattle.bus_outer.specs.Texts.{Adds}
 use Rattle.bus_cycles.proofs.LoadLemmas.{next_is}
 use Rattle.bus_cycles.proofs.load.put_next.Goals as goal

@@ -7,7 +7,7 @@ use Rattle.bus_shapes.specs.declared.class.Class.TheVariants.{Detail, Mark}
 use Rattle.bus_shapes.specs.Scales.{place}
 use Rattle.bus_shapes.specs.Shapes.{box_text}
 use Rattle.bus_cycles.specs.CyclesTexts.{mark_line, mark_words}
-use Rattle.bus_cycles.specs.Measures.{least_words_line}
+use Rattle.bus_cycles.specs.declared.measures.TheConstants.{LEAST_WORDS_LINE as least_words_line}
 use Rattle.bus_cycles.proofs.plot.put_least.Goals as goal
 
 pub returns-then-t-page : goal.returns-then-t-page

@@ -9,6 +9,6 @@ use Rattle.bus_cycles.proofs.plot.put_row_words.Goals as goal
 pub returns : goal.returns
 returns g c =
     let survey = c.args.survey.now in
-    subst (λ (n : ℕ). Adds g.K.Sink.held g.K.Sink.faults c.args.sink.now c.put_next.new.sink c.args.text.now c.put_next.new.text
-    (codes "a row for each cycle, from where it begins: " ++ parted (decimal n) ++ codes " of " ++ parted (decimal survey.count) ++ lengths_words survey ++ next_words survey.next)) c.min.ensures
-    (c.put.ensures ▸ c.put_parted.ensures ▸ c.put-2.ensures ▸ c.put_parted-2.ensures ▸ c.put_lengths.ensures ▸ c.put_next.ensures)
+    subst (λ (n : ℕ). Adds g.K.Sink.held g.K.Sink.faults c.args.sink.now c.put_lengths.new.sink c.args.text.now c.put_lengths.new.text
+    (codes "a row for each cycle, from its begin: " ++ parted (decimal n) ++ codes " of " ++ parted (decimal survey.count) ++ next_words survey.next ++ lengths_words survey)) c.min.ensures
+    (c.put.ensures ▸ c.put_parted.ensures ▸ c.put-2.ensures ▸ c.put_parted-2.ensures ▸ c.put_next.ensures ▸ c.put_lengths.ensures)
