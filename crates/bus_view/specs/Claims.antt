@@ -134,8 +134,8 @@ pub record IsPageOf (asked : Option Bounds) (text : List ℕ) (call : Call) : Ty
 -- of which `itself` takes none:
 --   draw    `vcd`, `wires` and `timers`, and all three with a window: the dump, or that an entry is doubled
 --   save    `gtkw`, and with a window: the save file, with the first breach where the window holds its moment
---   paint   `svg` and `cycles`, and both with a window: the picture, with what an audit finds or, where a heard text stands behind the trace,
---           with how many receptions are garbled in it
+--   paint   `svg` and `cycles`, and both with a window: the picture, with what an audit finds or, where a heard text stands behind the
+--           trace, with how many receptions are garbled in it
 --   judge   `svg` and `cycles` with bounds, and both with a window too: the picture with what is found, and with that
 --   page    `page` of any text, and with bounds: its page; the status is Done where the text gives a table that is accepted, else Refused
 --   itself  `--help` and `--version`: the help and the version line

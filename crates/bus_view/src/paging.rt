@@ -1,12 +1,13 @@
 //! The page of a table, or of a text that gives none.
-ghost use Rattle.std.specs.Prelude.{◌≡◌};
+ghost use Rattle.std.specs.Prelude.{◌≡◌, ◌≢◌};
 ghost use Rattle.bus_command.specs.declared.outcome.Outcome.TheVariants.{Answered};
 ghost use Rattle.bus_page.specs.Findings.{AreFindings};
 ghost use Rattle.bus_page.specs.Pages.{error_page, table_page};
 ghost use Rattle.bus_regime.specs.Verdicts.{is_accepted, verdict_of};
 ghost use Rattle.bus_table.specs.Gives.{Fails};
 ghost use Rattle.bus_table.specs.Reading.{answer_of};
-ghost use Rattle.bus_table.specs.declared.error.TableError.TheVariants.{Text};
+ghost use Rattle.bus_table.specs.Stops.{stop_of};
+ghost use Rattle.bus_table.specs.declared.error.TableError.TheVariants.{Text, Memory};
 ghost use Rattle.bus_view.specs.Due as due;
 ghost use Rattle.bus_view.specs.Due.{accepted_outcome, page_answer};
 ghost use Rattle.bus_view.specs.Forms.{Page};
@@ -19,7 +20,7 @@ use bus_bounds::Bounds;
 use bus_command::{TEXT_LIMIT, after_writing, take_text};
 use bus_outer::{Sink, Source};
 use bus_page::{Findings, find, write_page, write_unread_page, write_whole_page};
-use bus_table::{Table, TableError, find_stop, read_table};
+use bus_table::{Stop, Table, TableError, Unread, read_or_stop};
 use bus_text::Reason;
 use std::alloc::Global;
 
@@ -57,38 +58,26 @@ fn page_table<K: Sink>(
     }
 }
 
-/// Writes the page of a text of which this line is refused.
-fn page_unread<K: Sink>(
-    alloc: Global,
-    text: &[u8],
-    line: u64,
-    reason: Reason,
-    out: &mut K,
-) -> Outcome
+/// Writes the page of a text of which this line is refused, where its reading stops so.
+fn page_line<K: Sink>(text: &[u8], line: u64, reason: Reason, stop: &Stop, out: &mut K) -> Outcome
+    requires { stop.now ≡ stop_of text.now }
     ensures { EndsPaging ⟦<K as Sink>⟧ Answered (error_page version_text text.now (Text line reason)) out.old out.new result }
 {
-    match find_stop(alloc, text) {
-        Ok(stop) => after_writing(
-            write_unread_page(version(), text, line, reason, &stop, out),
-            Outcome::Answered,
-        ),
-        Err(_) => Outcome::NoMemory,
-    }
+    after_writing(
+        write_unread_page(version(), text, line, reason, stop, out),
+        Outcome::Answered,
+    )
 }
 
-/// Writes the page of a text that gives no table for this reason.
-fn page_error<K: Sink>(
-    alloc: Global,
-    asked: Option<Bounds>,
-    text: &[u8],
-    error: TableError,
-    out: &mut K,
-) -> Outcome
-    requires { Fails error (answer_of text.now) }
+/// Writes the page of a text that gives no table, whose reading came to this.
+fn page_unread<K: Sink>(asked: Option<Bounds>, text: &[u8], unread: Unread, out: &mut K) -> Outcome
+    requires error { Fails unread.error (answer_of text.now) }
+    requires stop { unread.error ≢ Memory → unread.stop ≡ stop_of text.now }
     ensures { EndsPaging ⟦<K as Sink>⟧ (page_answer text.now) (due.page asked text.now) out.old out.new result }
 {
+    let Unread { error, stop } = unread;
     match error {
-        TableError::Text { line, reason } => page_unread(alloc, text, line, reason, out),
+        TableError::Text { line, reason } => page_line(text, line, reason, &stop, out),
         TableError::Whole(reason) => after_writing(
             write_whole_page(version(), text, reason, out),
             Outcome::Answered,
@@ -101,9 +90,9 @@ fn page_error<K: Sink>(
 fn page_text<K: Sink>(alloc: Global, asked: Option<Bounds>, text: &[u8], out: &mut K) -> Outcome
     ensures { EndsPaging ⟦<K as Sink>⟧ (page_answer text.now) (due.page asked text.now) out.old out.new result }
 {
-    match read_table(alloc, text) {
+    match read_or_stop(alloc, text) {
         Ok(table) => page_table(alloc, asked, text, &table, out),
-        Err(error) => page_error(alloc, asked, text, error, out),
+        Err(unread) => page_unread(asked, text, unread, out),
     }
 }
 

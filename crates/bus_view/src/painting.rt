@@ -1,5 +1,5 @@
 //! The pictures.
-ghost use Rattle.std.specs.Prelude.{◌≡◌, ◌≤◌, true};
+ghost use Rattle.std.specs.Prelude.{◌≡◌, ◌≤◌, true, IfOk};
 ghost use Rattle.bus_command.specs.Acts.{Ends};
 ghost use Rattle.bus_command.specs.Bounding.{most_near_delay};
 ghost use Rattle.bus_command.specs.Outside.{sink_seen};
@@ -8,10 +8,12 @@ ghost use Rattle.bus_command.specs.declared.outcome.Outcome.TheVariants.{Done};
 ghost use Rattle.bus_load.specs.Loads.{IsCarrierOf};
 ghost use Rattle.bus_outer.specs.Sinks.{WritesText};
 ghost use Rattle.bus_regime.specs.Verdicts.{verdict_of};
+ghost use Rattle.bus_shapes.specs.Sending.{sents as all_told};
 ghost use Rattle.bus_trace.specs.Traces.{IsTrace};
 ghost use Rattle.bus_view.specs.inside.Acting.{EndsOnRecorded, EndsOnView};
 ghost use Rattle.bus_view.specs.Due.{painted, window_or_whole};
 ghost use Rattle.bus_view.specs.Forms.{Painted, Judged};
+ghost use Rattle.bus_view.specs.declared.forms.Picture.TheVariants.{TimeLine};
 
 use crate::forms::Picture;
 use crate::refusal::Outcome;
@@ -25,12 +27,24 @@ use bus_load::{Stretch, carrier_stretches};
 use bus_outer::{Sink, WriteFault};
 use bus_picture::write_time_line;
 use bus_regime::{TableVerdict, verdict};
-use bus_shapes::Told;
+use bus_shapes::{Sent, Told, all_sents};
+use bus_strings::laws::neighbours_tell;
 use bus_table::Table;
 use bus_trace::{Trace, Window};
-use std::alloc::Global;
+use std::alloc::{AllocError, Global};
 
-/// Writes a picture of a window of a trace, of which the carrier is given.
+/// What a time line tells of each transmission of a trace; cycles ask for nothing of it, which takes no memory.
+fn sents_of(alloc: Global, picture: Picture, trace: &Trace) -> Result<Vec<Sent>, AllocError>
+    ensures { IfOk result (λ told. picture ≡ TimeLine → told.items ≡ all_told trace.now.list) }
+{
+    neighbours_tell();
+    match picture {
+        Picture::TimeLine => all_sents(alloc, trace.list()),
+        Picture::Cycles => Ok(Vec::new(alloc)),
+    }
+}
+
+/// Writes a picture of a window of a trace, of which the carrier is given, and for a time line what is told of each transmission.
 fn write_picture<K: Sink>(
     picture: Picture,
     window: &Window,
@@ -39,14 +53,18 @@ fn write_picture<K: Sink>(
     table: &Table,
     trace: &Trace,
     carrier: &[Stretch],
+    sents: &[Sent],
     out: &mut K,
 ) -> Result<(), WriteFault>
     requires carrier { IsCarrierOf carrier.now trace.now.list }
+    requires all { picture ≡ TimeLine → sents.now ≡ all_told trace.now.list }
     ensures { WritesText K.held K.faults out.old out.new result
         (painted picture window.now verdict.now told.now table.now trace.now) }
 {
     match picture {
-        Picture::TimeLine => write_time_line(window, verdict, told, table, trace, carrier, out),
+        Picture::TimeLine => write_time_line(
+            window, verdict, told, table, trace, carrier, sents, out,
+        ),
         Picture::Cycles => write_cycles(window, verdict, told, table, trace, carrier, out),
     }
 }
@@ -65,17 +83,18 @@ fn paint_told<K: Sink>(
         (λ text. text ≡ painted picture (window_or_whole window trace.now) (verdict_of table.now) told.now table.now trace.now)
         (sink_seen ⟦<K as Sink>⟧ out.old) (sink_seen ⟦<K as Sink>⟧ out.new) result }
 {
-    match carrier_stretches(alloc, trace.list()) {
-        Ok(carrier) => {
-            let window = window_or_whole(window, trace);
-            let verdict = verdict(table);
-            let painted = write_picture(
-                picture, &window, &verdict, told, table, trace, &carrier, out,
-            );
-            after_writing(painted, Outcome::Done)
-        }
-        Err(_) => Outcome::NoMemory,
-    }
+    let Ok(carrier) = carrier_stretches(alloc, trace.list()) else {
+        return Outcome::NoMemory;
+    };
+    let Ok(sents) = sents_of(alloc, picture, trace) else {
+        return Outcome::NoMemory;
+    };
+    let window = window_or_whole(window, trace);
+    let verdict = verdict(table);
+    let painted = write_picture(
+        picture, &window, &verdict, told, table, trace, &carrier, &sents, out,
+    );
+    after_writing(painted, Outcome::Done)
 }
 
 /// Writes this picture of a trace on a table, with what an audit finds; of a window of it, or of all.

@@ -17,7 +17,13 @@ END
 
 /// The end of the picture, as long as the missing start needs: its row begins a synchronization gap before moment 0, and so 2170 bit times
 /// before it.
-const LONG: &str = "<rect class=\"other\" x=\"4640\" y=\"1700\" width=\"190\" height=\"120\">\
+const LONG: &str = "<rect class=\"mark\" x=\"4587\" y=\"1450\" width=\"10\" height=\"380\"/>
+<text class=\"small\" x=\"4627\" y=\"1530\">SG 1000</text>
+<rect class=\"mark\" x=\"4988\" y=\"1450\" width=\"10\" height=\"380\"/>
+<text class=\"detail\" x=\"4958\" y=\"1630\">least 1130</text>
+<rect class=\"mark\" x=\"5112\" y=\"1450\" width=\"10\" height=\"380\"/>
+<text class=\"small\" x=\"5152\" y=\"1530\">most 1170</text>
+<rect class=\"other\" x=\"4640\" y=\"1700\" width=\"190\" height=\"120\">\
 <title>T1 message 1: moments 20 to 80, 60 bit times, 10.0 to 40.0 microseconds</title></rect>
 <text class=\"digits\" x=\"4735\" y=\"1795\">1</text>
 <rect class=\"wordstring\" x=\"4920\" y=\"1700\" width=\"130\" height=\"120\">\
@@ -29,12 +35,6 @@ const LONG: &str = "<rect class=\"other\" x=\"4640\" y=\"1700\" width=\"190\" he
 <rect class=\"unobserved\" x=\"1450\" y=\"1700\" width=\"40\" height=\"120\">\
 <title>cut: the cycle begins at the settled start, or before the window</title></rect>
 <text class=\"detail\" x=\"9540\" y=\"1795\">8.7 %</text>
-<rect class=\"mark\" x=\"4587\" y=\"1450\" width=\"10\" height=\"380\"/>
-<text class=\"small\" x=\"4627\" y=\"1530\">SG 1000</text>
-<rect class=\"mark\" x=\"4988\" y=\"1450\" width=\"10\" height=\"380\"/>
-<text class=\"detail\" x=\"4958\" y=\"1630\">least 1130</text>
-<rect class=\"mark\" x=\"5112\" y=\"1450\" width=\"10\" height=\"380\"/>
-<text class=\"small\" x=\"5152\" y=\"1530\">most 1170</text>
 <rect class=\"breach\" x=\"8200\" y=\"1660\" width=\"20\" height=\"40\"/>
 <rect class=\"breach\" x=\"8200\" y=\"1820\" width=\"20\" height=\"40\"/>
 <text class=\"note\" x=\"8240\" y=\"1795\">breach</text>
@@ -58,8 +58,6 @@ const UNMARKED: &str = "<text class=\"detail\" x=\"1440\" y=\"1795\">0</text>
 <text class=\"detail\" x=\"10200\" y=\"1795\">60</text>
 <text class=\"small\" x=\"8650\" y=\"1795\">1-1</text>
 <text class=\"detail\" x=\"9540\" y=\"1795\">6.0 %</text>
-<rect class=\"mark\" x=\"8200\" y=\"1450\" width=\"10\" height=\"380\"/>
-<text class=\"small\" x=\"8240\" y=\"1530\">TI 1000</text>
 </svg>
 ";
 

@@ -20,7 +20,7 @@ fn headings_tell_by_how_much_a_start_is_late(rt: HostRuntime) -> Result<(), Fail
         let ran = run_on(&rt, &[command, "T", "R"], PERIODIC, LATE)?;
         let parts = [
             "; BREACH 0 2 Missing</title>\n",
-            "BREACH at 0 (0 \u{b5}s): terminal 2 starts 5 bit times later</text>\n",
+            "BREACH at 0 (0 \u{b5}s): terminal 2 is due, next start in 5 bit times</text>\n",
         ];
         assert!(rt; shows(&ran, &parts));
     }

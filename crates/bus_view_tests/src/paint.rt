@@ -19,11 +19,15 @@ WS L0B210 D00FF1
 END
 ";
 
-/// The end of the picture, of which 6700 units are the 1160 bit times of the longer row: a row of two transmissions, which begins a
-/// synchronization gap and the greatest terminal gap before the first, the words of one of two that collide, which are drawn after them in
-/// slots of their own, the loads, of 100 bit times and, since those that collide share 30, of 70, the marks, and the first start that is
+/// The end of the picture, of which 6700 units are the 1160 bit times of the longer row: the marks, a row of two transmissions, which
+/// begins a synchronization gap and the greatest terminal gap before the first, the words of one of two that collide, which are drawn
+/// after them in slots of their own, the loads, of 100 bit times and, since those that collide share 30, of 70, and the first start that is
 /// missing, in the first row.
-const ROWS: &str = "<rect class=\"other\" x=\"7440\" y=\"1700\" width=\"350\" height=\"300\">\
+const ROWS: &str = "<rect class=\"mark\" x=\"7275\" y=\"1450\" width=\"10\" height=\"880\"/>
+<text class=\"small\" x=\"7315\" y=\"1530\">SG 1000</text>
+<rect class=\"mark\" x=\"8026\" y=\"1450\" width=\"10\" height=\"880\"/>
+<text class=\"detail\" x=\"7996\" y=\"1630\">least 1130</text>
+<rect class=\"other\" x=\"7440\" y=\"1700\" width=\"350\" height=\"300\">\
 <title>T1 message 1: moments 1020 to 1080, 60 bit times, 510.0 to 540.0 microseconds</title></rect>
 <text class=\"digits\" x=\"7615\" y=\"1885\">1</text>
 <rect class=\"wordstring\" x=\"7960\" y=\"1700\" width=\"240\" height=\"300\">\
@@ -49,10 +53,6 @@ const ROWS: &str = "<rect class=\"other\" x=\"7440\" y=\"1700\" width=\"350\" he
 <text class=\"noise-digits\" x=\"7735\" y=\"2205\">2</text>
 <text class=\"detail\" x=\"9540\" y=\"1885\">8.6 %</text>
 <text class=\"detail\" x=\"9540\" y=\"2205\">6.4 %</text>
-<rect class=\"mark\" x=\"7275\" y=\"1450\" width=\"10\" height=\"880\"/>
-<text class=\"small\" x=\"7315\" y=\"1530\">SG 1000</text>
-<rect class=\"mark\" x=\"8026\" y=\"1450\" width=\"10\" height=\"880\"/>
-<text class=\"detail\" x=\"7996\" y=\"1630\">least 1130</text>
 <rect class=\"breach\" x=\"1670\" y=\"1660\" width=\"20\" height=\"40\"/>
 <rect class=\"breach\" x=\"1670\" y=\"2000\" width=\"20\" height=\"40\"/>
 <text class=\"note\" x=\"8240\" y=\"1885\">breach</text>
@@ -92,7 +92,7 @@ fn a_row_of_a_window_inside_a_cycle(rt: HostRuntime) -> Result<(), Fail> {
     let ran = run_on(&rt, &["cycles", "T", "R", "100", "140"], TABLE, TRACE)?;
     let parts = [
         "moments 100 to 140 of 150: 1 transmission, 0 garbled",
-        "from where it begins: 1 of 1; none whole</text>\n",
+        "from its begin: 1 of 1; none whole</text>\n",
         "<rect class=\"wordstring\" x=\"1700\" y=\"1700\" width=\"260\" height=\"120\"><title>T2 message 1: moments 110 to 150, ",
         "<text class=\"detail\" x=\"1440\" y=\"1795\">80</text>\n<text class=\"detail\" x=\"10200\" y=\"1795\">cut 70</text>\n",
         "<rect class=\"unobserved\" x=\"1450\" y=\"1700\" width=\"40\" height=\"120\">",

@@ -56,7 +56,7 @@ fn a_row_is_a_transmit_interval(rt: HostRuntime) -> Result<(), Fail> {
     let parts = [
         "<rect class=\"tick\" x=\"1801\" y=\"1650\" width=\"6\" height=\"320\"/>\n\
          <rect class=\"tick\" x=\"1500\" y=\"1650\" width=\"6\" height=\"320\"/>\n",
-        "from where it begins: 2 of 2; 1 whole, 150 to 150 bit times long</text>\n",
+        "from its begin: 2 of 2; 1 whole, their last ends 150 to 150 bit times behind their begins</text>\n",
         "<rect class=\"wordstring\" x=\"1800\" y=\"1700\" width=\"200\" height=\"120\"><title>T1 message 1: moments 90 to 150, ",
         "<text class=\"detail\" x=\"1440\" y=\"1795\">0</text>\n<text class=\"detail\" x=\"10200\" y=\"1795\">150</text>\n",
         "<rect class=\"wordstring\" x=\"1800\" y=\"1840\" width=\"200\" height=\"120\"><title>T1 message 2: moments 2090 to 2150, ",
@@ -67,7 +67,8 @@ fn a_row_is_a_transmit_interval(rt: HostRuntime) -> Result<(), Fail> {
     Ok(())
 }
 
-/// A transmission of the second terminal in each of 504 intervals, of which 500 have a row.
+/// A transmission of the second terminal in each of 504 intervals, of which 500 have a row. The first terminal holds no message, and has no
+/// line where it would be due.
 #[test]
 fn rows_that_are_too_many(rt: HostRuntime) -> Result<(), Fail> {
     let mut text = String::from_str(rt.alloc(), "TRACE 1\nHORIZON 1010000\nHOLD 2 504\n")?;
@@ -79,10 +80,13 @@ fn rows_that_are_too_many(rt: HostRuntime) -> Result<(), Fail> {
     let ran = run_on(&rt, &["cycles", "T", "R"], PERIODIC, text.as_str())?;
     let parts = [
         "moments 0 to 1\u{2009}010\u{2009}000 of 1\u{2009}010\u{2009}000: 504 transmissions, 0 garbled",
-        "from where it begins: 500 of 504; 504 whole, 20 to 20 bit times long, the next at 1\u{2009}000\u{2009}000</text>\n",
+        "from its begin: 500 of 504, next at 1\u{2009}000\u{2009}000; 504 whole, their last ends 20 to 20 bit times behind their begins</text>\n",
+        "<text class=\"detail\" x=\"10200\" y=\"1390\">last end</text>\n",
+        "<rect class=\"tick\" x=\"1500\" y=\"1650\" width=\"6\" height=\"70040\"/>\n<rect class=\"mark\" x=\"8200\" y=\"1450\" ",
         "<text class=\"detail\" x=\"1440\" y=\"71655\">998000</text>\n",
     ];
     assert!(rt; shows(&ran, &parts));
+    assert!(rt; !contains(ran.out.bytes(), "x=\"1801\" y=\"1650\""));
     assert!(rt; !contains(ran.out.bytes(), "T2 message 501:"));
     Ok(())
 }

@@ -3,6 +3,9 @@ use Rattle.bus_outer.specs.Sinks.{WritesText}
 use Rattle.bus_view.proofs.PaintLemmas.{time_line_is, cycles_are}
 use Rattle.bus_view.proofs.painting.write_picture.Goals as goal
 
+pub write_time_line-requires-clause-all : goal.write_time_line-requires-clause-all
+write_time_line-requires-clause-all g c = c.requires.all c.in-TimeLine.is
+
 pub returns-in-TimeLine : goal.returns-in-TimeLine
 returns-in-TimeLine g c =
     subst (λ (t : List ℕ). WritesText g.K.Sink.held g.K.Sink.faults c.args.out.now c.write_time_line.new.sink c.write_time_line.result t)
