@@ -104,4 +104,5 @@ StartIsAdvised table advices =
 
 -- Nor is an advice to start missing on an accepted table.
 abbrev pub NoStartMissing : Type 0
-NoStartMissing = (table : Table) → IsTrue (is_valid table) → IsTrue (is_accepted (verdict_of table)) → StartIsAdvised table (advices_of table)
+NoStartMissing = (table : Table) → IsTrue (is_valid table) → IsTrue (is_accepted (verdict_of table))
+    → StartIsAdvised table (advices_of table)

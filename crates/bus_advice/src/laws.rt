@@ -1,4 +1,4 @@
-//! Laws of the definitions, each the contract of a function that does nothing.
+//! Laws of advices: each works, and where one is missing none of its kind would. Each is the contract of a function that does nothing.
 ghost use Rattle.bus_advice.specs.Laws.{AdvicesWork, NoneMissing, NoStartMissing};
 
 /// The table with the number of an advice in place of its own is valid and accepted; with none that is nearer to its own, greater or

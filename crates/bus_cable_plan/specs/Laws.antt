@@ -10,7 +10,8 @@ use Rattle.bus_regime.specs.Gaps.{Gap, gaps}
 use Rattle.bus_regime.specs.Verdicts.{verdict_of, is_accepted}
 use Rattle.bus_plan.specs.Plans.{least_interval}
 use Rattle.bus_reach.specs.Bearing.{bears}
-use Rattle.bus_cable_plan.specs.Plans.{turns_for, least_in_order, least_interval_for, share, offsets_in_order, offsets_by_gap, planned_in_order}
+use Rattle.bus_cable_plan.specs.Plans.{turns_for, least_in_order, least_interval_for, share, offsets_in_order, offsets_by_gap}
+use Rattle.bus_cable_plan.specs.Plans.{planned_in_order}
 use Rattle.bus_cable_plan.specs.Known.{is_known}
 use Rattle.bus_cable_plan.specs.Shares.{gaps_hold, AreShorter}
 use Rattle.bus_cable_plan.specs.Answers.{fits, is_refuted}

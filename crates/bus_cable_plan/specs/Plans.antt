@@ -50,8 +50,8 @@ left_over d table = table.ti - least_in_order d table
 abbrev pub share : ℕ → Table → ℕ
 share d table = left_over d table / length table.senders
 
--- The senders in turn order with the gaps of the shape that needs least. What is left over is shared evenly before all senders, and the rest
--- of that goes to the first of them, one bit time each.
+-- The senders in turn order with the gaps of the shape that needs least. What is left over is shared evenly before all senders, and the
+-- rest of that goes to the first of them, one bit time each.
 abbrev pub plan_in_order : ℕ → Table → List Sender
 plan_in_order d table =
     laid_out (λ sender. gap_in d (shape_of d table) sender + share d table) (left_over d table % length table.senders) (turn_order table)

@@ -52,8 +52,8 @@ second_tg (sender ∷ senders) = max (second_tg senders) (min sender.tg (greates
 abbrev pub greater_pair : Pair → Pair → Pair
 greater_pair a b = if nat_lt (a.before + a.behind) (b.before + b.behind) then b else a
 
--- The pair of neighbours whose terminal gaps are the greatest together, of this one and those from the sender with terminal gap `before` on;
--- the last has the first of all, with terminal gap `first`, behind it.
+-- The pair of neighbours whose terminal gaps are the greatest together, of this one and those from the sender with terminal gap `before`
+-- on; the last has the first of all, with terminal gap `first`, behind it.
 abbrev pub pair_from : Pair → ℕ → ℕ → List Sender → Pair
 pair_from best first before [] = greater_pair best (record { before = before; behind = first })
 pair_from best first before (sender ∷ order) =

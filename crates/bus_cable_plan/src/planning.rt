@@ -220,9 +220,9 @@ fn most_of_periodic(alloc: Global, table: &Table) -> Result<Option<u32>, AllocEr
     Ok(None)
 }
 
-/// The greatest delay that any offsets of a table bear, in bit times, where it is known. None of an aperiodic table, of a sender alone, which
-/// bears every delay, where no offsets are accepted, and where it isn't known whether some bear more than those found. Fails only where
-/// memory runs out.
+/// The greatest delay that any offsets of a table bear, in bit times, where it is known. None of an aperiodic table, of a sender alone,
+/// which bears every delay, where no offsets are accepted, and where it isn't known whether some bear more than those found. Fails only
+/// where memory runs out.
 pub fn most_borne(alloc: Global, table: &Table) -> Result<Option<u32>, AllocError>
     ensures exact { IfOk result (λ most. most ≡ answers.most_borne_of table.now) }
 {

@@ -174,7 +174,8 @@ fn own(sg: u32, first: u32) -> Shape
     }
 }
 
-/// The shape in which the gap of the one of these neighbours is a synchronization gap and the delay, that of the other a synchronization gap.
+/// The shape in which the gap of the one of these neighbours is a synchronization gap and the delay, that of the other a synchronization
+/// gap.
 fn neighbours(d: u32, sg: u32, pair: Pair) -> Shape
     requires sg { (sg ≤ most_sg) }
     requires most { d ≤ most_ti }

@@ -5,7 +5,8 @@
 --   garbled_in    how many receptions are garbled, where a heard text stands at the front of some bytes
 --   looked_at     how many bytes at the front of these are looked at
 --   behind        what stands behind the text of a trace
-use Rattle.std.specs.Prelude.{◌≡◌, ℕ, zero, suc, ◌+◌, ◌*◌, Bool, ◌&&◌, ◌||◌, ◌==◌, List, length, take, drop, min, slice_index, codes, nat_eq}
+use Rattle.std.specs.Prelude.{◌≡◌, ℕ, zero, suc, ◌+◌, ◌*◌, Bool, ◌&&◌, ◌||◌, ◌==◌, List, length, take, drop, min, slice_index, codes}
+use Rattle.std.specs.Prelude.{nat_eq}
 use Rattle.std.specs.Prelude.{Option, Some, None, IfSome, if◌then◌else◌}
 use Rattle.std.specs.List.{starts_with, ends_with}
 use Rattle.std.specs.Option.{option_map}

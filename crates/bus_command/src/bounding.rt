@@ -25,7 +25,8 @@ pub fn number_of(word: &[u8], limit: u64) -> Option<u64>
 
 /// The bounds that three words write, D and J in nanoseconds; None where one of them is no plain decimal, or a number is past its limit.
 pub fn bounds_of(delay: &[u8], jitter: &[u8], clocks: &[u8]) -> Option<Bounds>
-    ensures { result ≡ (if are_bounds delay.now jitter.now clocks.now then Some (bounding.bounds_of delay.now jitter.now clocks.now) else None) }
+    ensures { result ≡ (if are_bounds delay.now jitter.now clocks.now
+        then Some (bounding.bounds_of delay.now jitter.now clocks.now) else None) }
 {
     let delay = number_of(delay, MOST_DELAY)?;
     let jitter = number_of(jitter, MOST_JITTER)?;
@@ -33,8 +34,8 @@ pub fn bounds_of(delay: &[u8], jitter: &[u8], clocks: &[u8]) -> Option<Bounds>
     Bounds::new(delay, jitter, clocks)
 }
 
-/// The bounds of a recording that three words write, D and J in bit times, at most 9 and 255; None where one of them is no plain decimal, or
-/// a number is past its limit.
+/// The bounds of a recording that three words write, D and J in bit times, at most 9 and 255; None where one of them is no plain decimal,
+/// or a number is past its limit.
 pub fn near_bounds_of(delay: &[u8], jitter: &[u8], clocks: &[u8]) -> Option<Bounds>
     ensures value { result ≡ bounding.near_bounds_of delay.now jitter.now clocks.now }
     ensures limit { IfSome result (λ bounds. bounds.delay ≤ most_near_delay) }

@@ -1,5 +1,6 @@
 -- What is found of a text that stands beside an accepted table.
-use Rattle.std.specs.Prelude.{ℕ, ◌+◌, nat_lt, Bool, true, false, ◌==◌, List, length, take, Option, Some, None, Result, Ok, Err, if◌then◌else◌}
+use Rattle.std.specs.Prelude.{ℕ, ◌+◌, nat_lt, Bool, true, false, ◌==◌, List, length, take, Option, Some, None, Result, Ok, Err}
+use Rattle.std.specs.Prelude.{if◌then◌else◌}
 use Rattle.bus_command.specs.Readers.{text_limit}
 use Rattle.bus_text.specs.Lines.{line_after_of}
 use Rattle.bus_text.specs.Refusals.{Refusal}
@@ -26,7 +27,8 @@ use Rattle.bus_diagnosis.specs.Kinds.{Kind, Messages, Cable, Trace, first_of}
 use Rattle.bus_diagnosis.specs.Misfits.{item_number, unfit_at}
 use Rattle.bus_diagnosis.specs.Reaches.{reach_of}
 pub use Rattle.bus_diagnosis.specs.declared.diagnosis.Diagnosis.{Diagnosis}
-pub use Rattle.bus_diagnosis.specs.declared.diagnosis.Diagnosis.TheVariants.{NoKind, Large, Line, Byte, Unfit, Uneven, TooLong, Runs, OnCable, Recorded}
+pub use Rattle.bus_diagnosis.specs.declared.diagnosis.Diagnosis.TheVariants.{NoKind, Large, Line, Byte, Unfit, Uneven, TooLong, Runs}
+pub use Rattle.bus_diagnosis.specs.declared.diagnosis.Diagnosis.TheVariants.{OnCable, Recorded}
 
 -- Whether nothing is wrong.
 abbrev pub is_right : Diagnosis → Bool

@@ -25,14 +25,16 @@ reason_text reasons.Range = codes "a number isn't within what its form allows.\n
 abbrev pub trace_reason_text : TraceReason → List ℕ
 trace_reason_text traces.Ended = codes "the text ends before it is whole.\n"
 trace_reason_text traces.Long = codes "it is longer than any line of a trace can be.\n"
-trace_reason_text traces.Keyword = codes "a line that begins so can't stand here; one space stands between two fields, and there are no comments.\n"
+trace_reason_text traces.Keyword =
+    codes "a line that begins so can't stand here; one space stands between two fields, and there are no comments.\n"
 trace_reason_text traces.Fields =
     codes "it hasn't the fields of its form; one space stands between two fields, none at the end, and a line feed alone ends a line.\n"
 trace_reason_text traces.Spelling = codes "a field isn't written as its form asks.\n"
 trace_reason_text traces.Parity = codes "the parity digit of a word isn't that of its value.\n"
 trace_reason_text traces.Range = codes "a number isn't within what its form allows.\n"
 trace_reason_text traces.Order = codes "it doesn't ascend behind the line of its kind before it.\n"
-trace_reason_text traces.Mark = codes "its moment isn't the end of its transmission, or a mark is wrong, its own or that of the transmission before it.\n"
+trace_reason_text traces.Mark =
+    codes "its moment isn't the end of its transmission, or a mark is wrong, its own or that of the transmission before it.\n"
 
 -- The form of an item.
 abbrev pub item_form : List ℕ
@@ -66,7 +68,8 @@ trace_forms =
 abbrev pub other_forms : Kind → List ℕ
 other_forms Messages = codes "Behind the first line stand any number of these:\n" ++ item_form
 other_forms Cable = codes "Behind the first line stand any number of each of these, in this order:\n" ++ named_forms ++ item_form
-other_forms Trace = codes "Behind the first line stand these, in this order, TX, WS and TE lines again for each transmission:\n" ++ trace_forms
+other_forms Trace = codes "Behind the first line stand these, in this order, TX, WS and TE lines again for each transmission:\n"
+    ++ trace_forms
 
 -- The first line that a text has to have.
 abbrev pub needed_text : Kind → List ℕ

@@ -32,8 +32,8 @@ NoneOvertaken bus =
     → (i ≡ j) ⊎ (bus.tg_short (who bus k) ≤ bus.tg_long (who bus j) + 2 * bus.delay)
     → bus.ti_long (who bus i) + slowest bus i j + bus.delay < bus.ti_short (who bus k) + fastest bus i k
 
--- The first round is in order, where sender k is due for the first time no earlier than `soon k` and no later than `late k` behind the first
--- power-up:
+-- The first round is in order, where sender k is due for the first time no earlier than `soon k` and no later than `late k` behind the
+-- first power-up:
 --   opens    the first sender is in sync, and its terminal gap has elapsed, when it is due at the latest
 --   synced   all others are in sync when it is due at the earliest
 --   apart    and each is due behind the one before it, whatever that takes.

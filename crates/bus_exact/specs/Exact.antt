@@ -7,7 +7,8 @@
 -- A tick is a bit time, and tick 0 comes one synchronization gap before moment 0: so a sender is powered up at the tick of its wake.
 -- Senders are told by their places in turn order.
 --   d   no sender hears another later by more than this
-use Rattle.std.specs.Prelude.{◌≡◌, ℕ, zero, suc, ◌+◌, ◌-◌, ◌&&◌, ◌==◌, Bool, false, nat_le, IsTrue, List, [], ◌∷◌, map, length, Some, if◌then◌else◌}
+use Rattle.std.specs.Prelude.{◌≡◌, ℕ, zero, suc, ◌+◌, ◌-◌, ◌&&◌, ◌==◌, Bool, false, nat_le, IsTrue, List, [], ◌∷◌, map, length, Some}
+use Rattle.std.specs.Prelude.{if◌then◌else◌}
 use Rattle.std.specs.List.{list_any}
 use Rattle.bus_strings.specs.Limits.{inner_gap}
 use Rattle.bus_strings.specs.Messages.{Entry, bits}

@@ -1,5 +1,6 @@
 //! Laws of findings, each the contract of a function that does nothing.
-ghost use Rattle.bus_findings.specs.Laws.{IntervalLackIsAmount, GapLackIsAmount, SyncLackIsAmount, DueIsFirst, NotDueIsNever, LatenessIsAmount};
+ghost use Rattle.bus_findings.specs.Laws.{IntervalLackIsAmount, GapLackIsAmount, SyncLackIsAmount, DueIsFirst, NotDueIsNever};
+ghost use Rattle.bus_findings.specs.Laws.{LatenessIsAmount};
 ghost use Rattle.bus_findings.specs.Laws.{DueIsTold, LateIsTold};
 ghost use Rattle.bus_findings.specs.Laws.{KeepersAreUnblamed, AmountsAreTold, GapIsTold, FaultSumIsTold};
 ghost use Rattle.bus_findings.specs.Laws.{CleanIsUnblamed, UnblamedIsClean, FilesAreUnblamed, CourseFilesAreUnblamed};

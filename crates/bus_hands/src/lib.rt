@@ -3,8 +3,8 @@
 //! - [`fits`] holds the items to the lines of their senders, and [`hands`] deals them out: one [`bus_table::Hand`] for each sender.
 //! - [`read_hands`] does both as it reads a messages text, and keeps no list of items.
 //!
-//! Which items fit and which hands they give is defined in bus_table (`specs/Fits`, `specs/Hands`), what a text gives in `specs/Dealt`, and what
-//! hands hold, as the HOLD lines of a trace say it, in `specs/Holds`.
+//! Which items fit and which hands they give is defined in bus_table (`specs/Fits`, `specs/Hands`), what a text gives in `specs/Dealt`, and
+//! what hands hold, as the HOLD lines of a trace say it, in `specs/Holds`.
 #![tactic(auto)]
 
 mod dealing;

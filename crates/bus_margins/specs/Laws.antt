@@ -35,7 +35,8 @@ abbrev pub AnySettles : Type 0
 AnySettles =
     (bounds : Bounds) (table : Table) (c : Course) (up : ℕ) → IsAperiodic table → level_of bounds table ≡ Any
     → IsCourse (bus_of bounds table) c → HaveLeft (bus_of bounds table) c → IsLeftAlone (bus_of bounds table) c up
-    → (origin : ℕ) × (origin + (among (bus_of bounds table)).delay ≤ up + most_apart bounds table) × HasSettled (bus_of bounds table) c up origin
+    → (origin : ℕ) × (origin + (among (bus_of bounds table)).delay ≤ up + most_apart bounds table)
+    × HasSettled (bus_of bounds table) c up origin
 
 -- And senders that are powered up later join, and disturb nobody.
 abbrev pub AnyJoins : Type 0
@@ -56,11 +57,13 @@ LevelIsRoom =
 abbrev pub LevelKeepsOrder : Type 0
 LevelKeepsOrder =
     (bounds : Bounds) (table : Table) (c : Course) → IsAperiodic table → level_of bounds table ≢ Neither
-    → IsCourse (bus_of bounds table) c → IsCold (bus_of bounds table) c → ArePoweredWithin (bus_of bounds table) c → AreEven (bus_of bounds table) c
+    → IsCourse (bus_of bounds table) c → IsCold (bus_of bounds table) c → ArePoweredWithin (bus_of bounds table) c
+    → AreEven (bus_of bounds table) c
     → IsInOrder (bus_of bounds table) c
 
 -- How far apart successive starts are told to be is a round of that bus, at least and at most.
 abbrev pub ApartIsARound : Type 0
 ApartIsARound =
     (bounds : Bounds) (table : Table)
-    → (least_apart bounds table ≡ least_round (among (bus_of bounds table))) × (most_apart bounds table ≡ most_round (among (bus_of bounds table)))
+    → (least_apart bounds table ≡ least_round (among (bus_of bounds table)))
+    × (most_apart bounds table ≡ most_round (among (bus_of bounds table)))

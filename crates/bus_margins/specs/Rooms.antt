@@ -40,13 +40,15 @@ turns_room bounds a b = room_between a b (most_time bounds a.tg + 2 * bounds.del
 
 abbrev pub opening_room : Bounds → Table → Sender → Sender → Room
 opening_room bounds table a b =
-    room_between a b (most_time bounds table.sg + most_time bounds a.tg + 2 * bounds.delay + 1) (least_time bounds table.sg + least_time bounds b.tg)
+    room_between a b (most_time bounds table.sg + most_time bounds a.tg + 2 * bounds.delay + 1)
+    (least_time bounds table.sg + least_time bounds b.tg)
 
 abbrev pub waiting_room : Bounds → Table → Sender → Sender → Room
 waiting_room bounds table a b = room_between a b (most_time bounds a.tg + 2 * bounds.delay + 1) (least_time bounds table.sg)
 
 abbrev pub joining_room : Bounds → Table → Sender → Sender → Room
-joining_room bounds table a b = room_between a b (most_time bounds table.sg + bounds.delay) (least_time bounds table.sg + least_time bounds a.tg)
+joining_room bounds table a b =
+    room_between a b (most_time bounds table.sg + bounds.delay) (least_time bounds table.sg + least_time bounds a.tg)
 
 abbrev pub alone_room : Bounds → Table → Sender → Room
 alone_room bounds table a = room_at a bounds.delay (least_time bounds table.sg + least_time bounds a.tg)
@@ -89,7 +91,8 @@ joining_least bounds table (a ∷ b ∷ senders) = least (pairs (joining_room bo
 
 abbrev pub cycle_least : Bounds → Table → List Sender → Option Room
 cycle_least bounds table [] = None
-cycle_least bounds table (first ∷ others) = lesser (Some (first_cycle_room bounds table first)) (least (map (cycle_room bounds table) others))
+cycle_least bounds table (first ∷ others) =
+    lesser (Some (first_cycle_room bounds table first)) (least (map (cycle_room bounds table) others))
 
 -- Those behind the first of these.
 abbrev pub behind : List Sender → List Sender
@@ -124,7 +127,8 @@ order_holds rooms =
 -- With the rule of intervals order comes from any start, with that of cycles alone it is kept from a common one.
 abbrev pub level_by : Bool → Rooms → Level
 level_by lasting rooms =
-    if lasting && order_holds rooms then (if holds rooms.interval then Any else (if holds rooms.cycle then Common else Neither)) else Neither
+    if lasting && order_holds rooms then (if holds rooms.interval then Any else (if holds rooms.cycle then Common else Neither))
+    else Neither
 
 abbrev pub level_of : Bounds → Table → Level
 level_of bounds table = level_by (lasts bounds table) (rooms_of bounds table)

@@ -61,7 +61,8 @@ unborne_line = codes "BEARS delay - jitter - clocks -\n"
 
 abbrev pub borne_line : Borne → List ℕ
 borne_line borne =
-    codes "BEARS delay " ++ decimal borne.delay ++ codes " jitter " ++ decimal borne.jitter ++ codes " clocks " ++ decimal borne.clocks ++ 10 ∷ []
+    codes "BEARS delay " ++ decimal borne.delay ++ codes " jitter " ++ decimal borne.jitter ++ codes " clocks "
+    ++ decimal borne.clocks ++ 10 ∷ []
 
 abbrev pub bears_line : Option Borne → List ℕ
 bears_line None = unborne_line

@@ -7,8 +7,8 @@
 //!
 //! [`laws`] has what a level says of the bus of the table, in the words of `bus_clocks`.
 //!
-//! The definitions are in `specs/`: `Times` and `Buses` (the bus of a table), `Rooms` and `Least` (the rules and the levels), `Bearing` with
-//! `Greatest`, `Texts`, and `Laws`.
+//! The definitions are in `specs/`: `Times` and `Buses` (the bus of a table), `Rooms` and `Least` (the rules and the levels), `Bearing`
+//! with `Greatest`, `Texts`, and `Laws`.
 #![tactic(auto)]
 
 mod bearing;

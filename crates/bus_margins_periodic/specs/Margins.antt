@@ -13,7 +13,8 @@ use Rattle.bus_margins_periodic.specs.declared.room.Rooms.{Rooms}
 use Rattle.bus_margins.specs.Buses.{bus_of}
 use Rattle.bus_margins_periodic.specs.Buses.{soon_of, late_of}
 use Rattle.bus_margins_periodic.specs.Least.{holds}
-use Rattle.bus_margins_periodic.specs.Rooms.{hearing_room, sync_room, order_room, begin_room, first_room, clock_room, lead_order_room, pause_room}
+use Rattle.bus_margins_periodic.specs.Rooms.{hearing_room, sync_room, order_room, begin_room, first_room, clock_room, lead_order_room}
+use Rattle.bus_margins_periodic.specs.Rooms.{pause_room}
 
 -- The least room by each rule.
 abbrev pub rooms_by : Bus → (ℕ → ℕ) → (ℕ → ℕ) → Rooms

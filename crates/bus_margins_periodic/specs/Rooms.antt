@@ -1,5 +1,5 @@
--- The room that a periodic bus leaves by each rule: by how much there is more than the rule needs. Terminals are told by their places in turn
--- order, turns by number: turn n is of the sender at place n modulo the number of senders.
+-- The room that a periodic bus leaves by each rule: by how much there is more than the rule needs. Terminals are told by their places in
+-- turn order, turns by number: turn n is of the sender at place n modulo the number of senders.
 --
 --   hearing   each message is heard out by all before the next one
 --   sync      whoever waits for its synchronization gap gets it in time

@@ -97,8 +97,8 @@ fn most_clocks(bounds: Bounds, table: &Table, places: &[usize; MOST_SENDERS]) ->
     low
 }
 
-/// The greatest value of how many millionths oscillators may be off. Since times are rounded, the rule of synchronization that holds with one
-/// value needn't hold with each smaller one; that of order does.
+/// The greatest value of how many millionths oscillators may be off. Since times are rounded, the rule of synchronization that holds with
+/// one value needn't hold with each smaller one; that of order does.
 fn greatest_clocks(
     bounds: Bounds,
     table: &Table,
@@ -122,8 +122,8 @@ fn greatest_clocks(
     n
 }
 
-/// How much a periodic table bears: the greatest delay, the greatest jitter and the greatest error of oscillators, each alone, with which its
-/// level is no lower. None where it has none. It takes no memory.
+/// How much a periodic table bears: the greatest delay, the greatest jitter and the greatest error of oscillators, each alone, with which
+/// its level is no lower. None where it has none. It takes no memory.
 pub fn bears(table: &Table, bounds: Bounds) -> Option<Borne>
     requires mode { table.now.mode ≡ Mode.Periodic }
     ensures none { IsNone result ↔ (level_of bounds table.now ≡ Level.Neither) }

@@ -1,4 +1,5 @@
-//! Whether the rule of order holds, and no more: a turn that is due late enough behind another leaves all that are due later late enough too.
+//! Whether the rule of order holds, and no more: a turn that is due late enough behind another leaves all that are due later late enough
+//! too.
 ghost use Rattle.std.specs.Prelude.{◌≡◌, ◌<◌, ◌≤◌, ◌+◌, ◌-◌, ◌*◌, ◌^◌, length, suc, true};
 ghost use Rattle.bus_drift.specs.Turns.{fastest, slowest};
 ghost use Rattle.bus_table.specs.Turned.{AreTurned};

@@ -1,4 +1,4 @@
-//! Laws of the definitions, each the contract of a function that does nothing.
+//! What a level says of the bus of a periodic table. Each law is the contract of a function that does nothing.
 ghost use Rattle.bus_margins_periodic.specs.Laws.{LeadsFollowOne, LeadsIsRoom, TurnsIsRoom, TurnsKeepTurns};
 
 /// Level `Turns` is exactly that the bus of the table leaves room for turns. So in every course all take turns for ever, and keep pace.

@@ -1,4 +1,4 @@
-//! Laws of the definitions, each the contract of a function that does nothing.
+//! Laws of planned offsets: what is planned is accepted, and what isn't can't be. Each is the contract of a function that does nothing.
 ghost use Rattle.bus_plan.specs.Laws.{PlannedIsAccepted, ShortIsRefused, FeasibleExactly, PlansAnew};
 
 /// Where the transmit interval is at least the least interval, the planned table is valid, and accepted.

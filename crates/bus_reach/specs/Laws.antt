@@ -35,7 +35,8 @@ abbrev pub BorneIsClosed : Type 0
 BorneIsClosed =
     (table : Table) (hands : List Hand) (most : ℕ) (delay : Delays) (wake : Wakes) → IsTrue (is_valid table) → table.mode ≡ Aperiodic
     → IsTrue (is_accepted (verdict_of table)) → IsTrue (are_even table hands) → AreDelays most (sender_numbers table) delay
-    → AreWakes most table.senders wake → IsTrue (bears table most) → IsCableRun table hands most delay wake (cable_closed delay wake table hands)
+    → AreWakes most table.senders wake → IsTrue (bears table most)
+    → IsCableRun table hands most delay wake (cable_closed delay wake table hands)
 
 -- Where an accepted aperiodic table doesn't bear delays up to d, there are places on a straight cable of that length, and wakes, with which
 -- the closed schedule fails, whatever even hands of two rounds or more its senders have.
@@ -49,7 +50,8 @@ ToleranceIsExact =
 abbrev pub KeepsSchedule : Table → ℕ → Type 0
 KeepsSchedule table d =
     (hands : List Hand) (delay : Delays) (wake : Wakes) → IsTrue (are_even table hands) → AreDelays d (sender_numbers table) delay
-    → AreWakes d table.senders wake → IsLawfulOnCable (quiet_of table) delay wake (stations_of table hands) (greatest_end (cable_closed delay wake table hands))
+    → AreWakes d table.senders wake
+    → IsLawfulOnCable (quiet_of table) delay wake (stations_of table hands) (greatest_end (cable_closed delay wake table hands))
     (cable_closed delay wake table hands)
 
 -- It bears exactly the delays with which it keeps its schedule.

@@ -5,7 +5,8 @@ ghost use Rattle.bus_recording.specs.Amounts.{GapIsNear, GapIsTrue, IntervalIsEx
 ghost use Rattle.bus_recording.specs.Bounded.{AdmissibleKeepsBounds, CoursesKeepBounds};
 ghost use Rattle.bus_recording.specs.Exact.{CleanStartIsDue, CleanStartIsLawful};
 ghost use Rattle.bus_recording.specs.FileAmounts.{FileAmountsAreTrue, FileGapIsTrue};
-ghost use Rattle.bus_recording.specs.Files.{CourseFileIsClean, FileIsClean, FileIsRecorded, UntilHeardKeepsBounds, UntilHearsWithin, UntilIsPlaced, UntilKeepsBounds};
+ghost use Rattle.bus_recording.specs.Files.{CourseFileIsClean, FileIsClean, FileIsRecorded, UntilHeardKeepsBounds, UntilHearsWithin};
+ghost use Rattle.bus_recording.specs.Files.{UntilIsPlaced, UntilKeepsBounds};
 ghost use Rattle.bus_recording.specs.Found.{LateStartIsFound, PlacedIsSteady, ShortGapIsFound, ShortIntervalIsFound, ShortSyncIsFound};
 ghost use Rattle.bus_recording.specs.Just.{FindingsAreJust};
 ghost use Rattle.bus_recording.specs.Monitors.{ThereAreRecordings};

@@ -1,4 +1,4 @@
-//! Laws of the definitions, each the contract of a function that does nothing.
+//! Laws of the closed schedule, of any length. Each is the contract of a function that does nothing.
 ghost use Rattle.bus_schedule.specs.Laws.{AcceptedIsClosed, ClosedEndsInCycles, ClosedIsOrderly, EvenHandsAgree, GapsAreLeft};
 ghost use Rattle.bus_schedule.specs.Laws.{EvenRoundsAreClosed, LiveRoundsAreLawful, LiveRoundsEnd};
 ghost use Rattle.bus_schedule.specs.Laws.{BorneGapsAreClosed, AcceptedGapsBearNone, ShortCyclesStartEarly};

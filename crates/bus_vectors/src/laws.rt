@@ -1,4 +1,4 @@
-//! Laws of the definitions, each the contract of a function that does nothing.
+//! Laws of drill tables and their items. Each is the contract of a function that does nothing.
 ghost use Rattle.bus_vectors.specs.MadeLaws.{MadeTablesAreValid, MadeItemsFit, MadeItemsAreEven};
 
 /// Every made table is valid.

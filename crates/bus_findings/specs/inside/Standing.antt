@@ -1,6 +1,7 @@
 -- How far the walk over a trace has come, and what is kept then.
 --   i   how many transmissions of the list are behind
-use Rattle.std.specs.Prelude.{◌≡◌, ◌≢◌, ℕ, ◌+◌, ◌*◌, ◌^◌, ◌<◌, ◌≤◌, min, max, true, false, not, ◌==◌, List, filter, length, take, drop, slice_get, slice_range}
+use Rattle.std.specs.Prelude.{◌≡◌, ◌≢◌, ℕ, ◌+◌, ◌*◌, ◌^◌, ◌<◌, ◌≤◌, min, max, true, false, not, ◌==◌, List, filter, length, take, drop}
+use Rattle.std.specs.Prelude.{slice_get, slice_range}
 use Rattle.std.specs.Prelude.{Option, Some, None, if◌then◌else◌}
 use Rattle.std.specs.List.{reduce}
 use Rattle.bus_strings.specs.Marking.{greatest_end}

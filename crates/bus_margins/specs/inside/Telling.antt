@@ -8,7 +8,8 @@ use Rattle.bus_margins.specs.declared.rule.Rule.TheVariants.{Whole, Drop, Waitin
 use Rattle.bus_margins.specs.declared.rule.PairRule.{PairRule}
 use Rattle.bus_margins.specs.declared.rule.PairRule.TheVariants.{Turns, Opening, Joining}
 use Rattle.bus_margins.specs.Least.{least}
-use Rattle.bus_margins.specs.Rooms.{whole_room, drop_room, turns_room, opening_room, waiting_room, joining_room, interval_room, cycle_room, behind}
+use Rattle.bus_margins.specs.Rooms.{whole_room, drop_room, turns_room, opening_room, waiting_room, joining_room, interval_room, cycle_room}
+use Rattle.bus_margins.specs.Rooms.{behind}
 
 -- The room that a rule leaves at a sender, by itself or with the first one.
 abbrev pub room_by : Bounds → Table → Sender → Rule → Sender → Room
