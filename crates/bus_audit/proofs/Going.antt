@@ -27,7 +27,7 @@ use Rattle.bus_medium.proofs.StationLaws.{timings_are_sound}
 use Rattle.bus_audit.specs.declared.answer.BreachKind.{BreachKind}
 use Rattle.bus_audit.specs.declared.answer.BreachKind.TheVariants.{Stranger, Missing}
 use Rattle.bus_audit.specs.declared.watch.Watch.{Watch}
-use Rattle.bus_audit.specs.declared.clock.Clock.{Clock}
+use Rattle.bus_audit.specs.declared.progress.Progress.{Progress}
 use Rattle.bus_audit.specs.Breaches.{held, flaw, kind_at, IsFirstBreach}
 use Rattle.bus_audit.specs.inside.Watches.{ready, pair, settled, begun, passed, IsLow, AreLow, NoneBefore, Misses}
 use Rattle.bus_audit.specs.inside.Standing.{NotBefore, NoEntries, Keeps, Tells, At, Told, Stands, Group, Near, Arrived, AreFar, Judged, Closed, Behind, JudgedTo}
@@ -72,9 +72,9 @@ near_on l t e n m up none near = record {
   ];
 }
 
-pub closed_here : (table : Table) (trace : Recording) (clock : Clock) (watches : List Watch) (t m : ℕ) → TestDecides → IsTrue (is_valid table) → t ≡ clock.moment → Judged table trace clock watches t m → Closed table trace clock watches t m
-closed_here table trace clock watches t m d valid same j =
-    let c = clock.moment in
+pub closed_here : (table : Table) (trace : Recording) (progress : Progress) (watches : List Watch) (t m : ℕ) → TestDecides → IsTrue (is_valid table) → t ≡ progress.moment → Judged table trace progress watches t m → Closed table trace progress watches t m
+closed_here table trace progress watches t m d valid same j =
+    let c = progress.moment in
     let none : NoEntries trace.list c j.number c m = subst (λ u. NoEntries trace.list c j.number u m) same j.none in
     let up : j.number ≤ m = elim j.upto [ inl later ↦ absurd (omega arith) | inr here ↦ here.1 ] in
     record {
@@ -82,17 +82,17 @@ closed_here table trace clock watches t m d valid same j =
       number = j.number;
       told = subst (Told table trace watches c c j.number) (sym same) (stands_told table trace watches c j.number j.stands);
       none = j.none;
-      arrived = λ missed. subst (λ u. Arrived table trace watches c clock.end u m) (sym same)
-          (arrived_here table trace watches c clock.end m
+      arrived = λ missed. subst (λ u. Arrived table trace watches c progress.end u m) (sym same)
+          (arrived_here table trace watches c progress.end m
           (stands_on table trace watches c j.number m d (seated table valid) j.stands up none (subst (λ u. NoneBefore (quiet_of table) c watches (pair u m)) same missed))
-          (near_on trace.list c clock.end j.number m up none j.near));
+          (near_on trace.list c progress.end j.number m up none j.near));
       far = j.far;
     }
 
 -- ---- a later moment
-later_moment : (clock : Clock) (n t m : ℕ) → NotBefore t m clock.moment n → (t ≡ clock.moment → ⊥) → clock.moment < t
-later_moment clock n t m (inl later) apart = later
-later_moment clock n t m (inr here) apart = absurd (apart here.0)
+later_moment : (progress : Progress) (n t m : ℕ) → NotBefore t m progress.moment n → (t ≡ progress.moment → ⊥) → progress.moment < t
+later_moment progress n t m (inl later) apart = later
+later_moment progress n t m (inr here) apart = absurd (apart here.0)
 
 -- no entry is left at the moment of the clock
 none_over : (l : List Entry) (c n t m : ℕ) → c < t → NoEntries l c n t m → NoEntries l c n (c + 1) 0
@@ -104,39 +104,39 @@ none_begin l c n t m none x i low high = none x i (inl low) (inl high)
 none_behind : (l : List Entry) (c n t m : ℕ) → NoEntries l c n t m → NoEntries l (c + 1) 0 t m
 none_behind l c n t m none x i new before = none x i (inl (elim new [ inl later ↦ omega arith | inr here ↦ let e : x.moment ≡ c + 1 = here.0 in omega arith ])) before
 
-is_over : (table : Table) (trace : Recording) (clock : Clock) (watches : List Watch) (t m : ℕ) → TestDecides → IsTrue (is_valid table) → (j : Judged table trace clock watches t m) → clock.moment < t → NoneBefore (quiet_of table) clock.moment watches (pair (clock.moment + 1) 0) → Over table trace watches clock.moment
-is_over table trace clock watches t m d valid j less missed = stands_over table trace watches clock.moment j.number d (seated table valid) j.stands (none_over trace.list clock.moment j.number t m less j.none) missed
+is_over : (table : Table) (trace : Recording) (progress : Progress) (watches : List Watch) (t m : ℕ) → TestDecides → IsTrue (is_valid table) → (j : Judged table trace progress watches t m) → progress.moment < t → NoneBefore (quiet_of table) progress.moment watches (pair (progress.moment + 1) 0) → Over table trace watches progress.moment
+is_over table trace progress watches t m d valid j less missed = stands_over table trace watches progress.moment j.number d (seated table valid) j.stands (none_over trace.list progress.moment j.number t m less j.none) missed
 
-pub closed_calm : (table : Table) (trace : Recording) (clock : Clock) (watches : List Watch) (t m : ℕ) → TestDecides → IsTrue (is_valid table) → HaveStrings trace.list → (t ≡ clock.moment → ⊥) → Judged table trace clock watches t m
-    → NoneBefore (quiet_of table) clock.moment watches (pair (clock.moment + 1) 0) → clock.end ≤ clock.moment → Closed table trace clock watches t m
-closed_calm table trace clock watches t m d valid strings apart j missed over =
-    let c = clock.moment in
-    let less : c < t = later_moment clock j.number t m j.upto apart in
+pub closed_calm : (table : Table) (trace : Recording) (progress : Progress) (watches : List Watch) (t m : ℕ) → TestDecides → IsTrue (is_valid table) → HaveStrings trace.list → (t ≡ progress.moment → ⊥) → Judged table trace progress watches t m
+    → NoneBefore (quiet_of table) progress.moment watches (pair (progress.moment + 1) 0) → progress.end ≤ progress.moment → Closed table trace progress watches t m
+closed_calm table trace progress watches t m d valid strings apart j missed over =
+    let c = progress.moment in
+    let less : c < t = later_moment progress j.number t m j.upto apart in
     let now : (x : Entry) → In x trace.list → x.moment ≡ c → ⊥ = λ x i at. elim j.near.now [
       | inl calm ↦ elim (cases_lt x.terminal j.number) [ inl low ↦ calm.none x i at low | inr high ↦ j.none x i (inr (at, high)) (inl (omega arith)) ]
-      | inr group ↦ let bit : 0 < bits group.entry.message = bits_some group.entry.message (strings group.entry group.there) in let e : end_of group.entry ≡ clock.end = group.end in let f : group.entry.moment ≡ c = group.moment in omega arith
+      | inr group ↦ let bit : 0 < bits group.entry.message = bits_some group.entry.message (strings group.entry group.there) in let e : end_of group.entry ≡ progress.end = group.end in let f : group.entry.moment ≡ c = group.moment in omega arith
     ] in
-    let on : Onward table trace watches c c t = calm_onward table trace watches c t (is_over table trace clock watches t m d valid j less missed) j.near.old now less (none_begin trace.list c j.number t m j.none) in
+    let on : Onward table trace watches c c t = calm_onward table trace watches c t (is_over table trace progress watches t m d valid j less missed) j.near.old now less (none_begin trace.list c j.number t m j.none) in
     record {
       moment = c + 1;
       number = 0;
       told = on.told;
       none = none_behind trace.list c j.number t m j.none;
-      arrived = arrived_on table trace watches c c clock.end t m d (seated table valid) on less over
+      arrived = arrived_on table trace watches c c progress.end t m d (seated table valid) on less over
           (λ x i low. elim (cases_lt x.moment c) [ inl before ↦ j.near.old x i before | inr at ↦ absurd (now x i (omega arith)) ])
           (none_behind trace.list c j.number t m j.none);
       far = j.far;
     }
 
-pub closed_busy : (table : Table) (trace : Recording) (clock : Clock) (watches : List Watch) (t m : ℕ) → TestDecides → IsTrue (is_valid table) → HaveStrings trace.list → (t ≡ clock.moment → ⊥) → Judged table trace clock watches t m
-    → NoneBefore (quiet_of table) clock.moment watches (pair (clock.moment + 1) 0) → clock.moment < clock.end
-    → (now : Clock) (watches' : List Watch) → now ≡ record { moment = clock.end; end = clock.end } → watches' ≡ map (passed (quiet_of table + clock.moment) (quiet_of table + clock.end)) watches → AreFar watches' now → Closed table trace now watches' t m
-closed_busy table trace clock watches t m d valid strings apart j missed long now watches' now_is are far =
-    let c = clock.moment in
-    let e = clock.end in
-    let less : c < t = later_moment clock j.number t m j.upto apart in
-    let at_end : now.moment ≡ e = ap (λ (k : Clock). k.moment) now_is in
-    let to_end : now.end ≡ e = ap (λ (k : Clock). k.end) now_is in
+pub closed_busy : (table : Table) (trace : Recording) (progress : Progress) (watches : List Watch) (t m : ℕ) → TestDecides → IsTrue (is_valid table) → HaveStrings trace.list → (t ≡ progress.moment → ⊥) → Judged table trace progress watches t m
+    → NoneBefore (quiet_of table) progress.moment watches (pair (progress.moment + 1) 0) → progress.moment < progress.end
+    → (now : Progress) (watches' : List Watch) → now ≡ record { moment = progress.end; end = progress.end } → watches' ≡ map (passed (quiet_of table + progress.moment) (quiet_of table + progress.end)) watches → AreFar watches' now → Closed table trace now watches' t m
+closed_busy table trace progress watches t m d valid strings apart j missed long now watches' now_is are far =
+    let c = progress.moment in
+    let e = progress.end in
+    let less : c < t = later_moment progress j.number t m j.upto apart in
+    let at_end : now.moment ≡ e = ap (λ (k : Progress). k.moment) now_is in
+    let to_end : now.end ≡ e = ap (λ (k : Progress). k.end) now_is in
     let moved : List Watch = map (passed (quiet_of table + c) (quiet_of table + e)) watches in
     let group : Group trace.list c e j.number = elim j.near.now [ inl calm ↦ let h : e ≤ c = calm.over in absurd (omega arith) | inr g ↦ g ] in
     let busy : IsBusy trace.list c e = subst (λ u. IsBusy trace.list u e) group.moment (subst (IsBusy trace.list group.entry.moment) group.end (entry_is_busy trace.list group.entry group.there (strings group.entry group.there))) in
@@ -144,7 +144,7 @@ closed_busy table trace clock watches t m d valid strings apart j missed long no
       | inl before ↦ let h : end_of x ≤ c = j.near.old x i before in omega arith
       | inr at ↦ let here : x.moment ≡ c = omega arith in elim (cases_lt x.terminal j.number) [ inl few ↦ group.all x i here few | inr many ↦ absurd (j.none x i (inr (here, many)) (inl (omega arith))) ]
     ] in
-    let on : Onward table trace moved c e t = group_onward table trace watches c e t (is_over table trace clock watches t m d valid j less missed) busy ended (none_begin trace.list c j.number t m j.none) in
+    let on : Onward table trace moved c e t = group_onward table trace watches c e t (is_over table trace progress watches t m d valid j less missed) busy ended (none_begin trace.list c j.number t m j.none) in
     let told : Told table trace watches' now.moment (c + 1) 0 t = subst (λ k. Told table trace watches' k (c + 1) 0 t) (sym at_end) (subst (λ ws. Told table trace ws e (c + 1) 0 t) (sym are) on.told) in
     record {
       moment = c + 1;
@@ -161,22 +161,22 @@ closed_busy table trace clock watches t m d valid strings apart j missed long no
     }
 
 -- somebody is missed at the moment of the clock
-pub missed_over : (table : Table) (trace : Recording) (clock : Clock) (watches : List Watch) (t m v r : ℕ) (kind : BreachKind) → TestDecides → IsTrue (is_valid table) → (t ≡ clock.moment → ⊥) → t ≤ trace.horizon → Judged table trace clock watches t m
-    → r < 256 → kind ≡ Missing → Misses (quiet_of table) clock.moment watches (pair v r) → NoneBefore (quiet_of table) clock.moment watches (pair v r) → pair v r < pair (clock.moment + 1) 0 → IsFirstBreach table trace v r kind
-missed_over table trace clock watches t m v r kind d valid apart below j few is miss none less =
-    let c = clock.moment in
-    let later : c < t = later_moment clock j.number t m j.upto apart in
+pub missed_over : (table : Table) (trace : Recording) (progress : Progress) (watches : List Watch) (t m v r : ℕ) (kind : BreachKind) → TestDecides → IsTrue (is_valid table) → (t ≡ progress.moment → ⊥) → t ≤ trace.horizon → Judged table trace progress watches t m
+    → r < 256 → kind ≡ Missing → Misses (quiet_of table) progress.moment watches (pair v r) → NoneBefore (quiet_of table) progress.moment watches (pair v r) → pair v r < pair (progress.moment + 1) 0 → IsFirstBreach table trace v r kind
+missed_over table trace progress watches t m v r kind d valid apart below j few is miss none less =
+    let c = progress.moment in
+    let later : c < t = later_moment progress j.number t m j.upto apart in
     subst (IsFirstBreach table trace v r) (sym is)
     (silence_breach table trace watches c c j.number c (c + 1) 0 v r d (seated table valid) (stands_told table trace watches c j.number j.stands)
     (λ u k b. elim b [ inl low ↦ (omega arith, omega arith) | inr at ↦ let e : k < 0 = at.1 in absurd (omega arith) ])
     (none_over trace.list c j.number t m later j.none) (omega arith) few miss none less)
 
 -- somebody is missed before the next pair
-pub missed_on : (table : Table) (trace : Recording) (clock : Clock) (watches : List Watch) (t m v r : ℕ) (kind : BreachKind) → TestDecides → IsTrue (is_valid table) → (t < trace.horizon) ⊎ ((t ≡ trace.horizon) × (m ≡ 0)) → m < 256 → Closed table trace clock watches t m
-    → r < 256 → kind ≡ Missing → Misses (quiet_of table) clock.moment watches (pair v r) → NoneBefore (quiet_of table) clock.moment watches (pair v r) → pair v r < pair t m → IsFirstBreach table trace v r kind
-missed_on table trace clock watches t m v r kind d valid below small j few is miss none less =
+pub missed_on : (table : Table) (trace : Recording) (progress : Progress) (watches : List Watch) (t m v r : ℕ) (kind : BreachKind) → TestDecides → IsTrue (is_valid table) → (t < trace.horizon) ⊎ ((t ≡ trace.horizon) × (m ≡ 0)) → m < 256 → Closed table trace progress watches t m
+    → r < 256 → kind ≡ Missing → Misses (quiet_of table) progress.moment watches (pair v r) → NoneBefore (quiet_of table) progress.moment watches (pair v r) → pair v r < pair t m → IsFirstBreach table trace v r kind
+missed_on table trace progress watches t m v r kind d valid below small j few is miss none less =
     subst (IsFirstBreach table trace v r) (sym is)
-    (silence_breach table trace watches clock.moment j.moment j.number t t m v r d (seated table valid) j.told
+    (silence_breach table trace watches progress.moment j.moment j.number t t m v r d (seated table valid) j.told
     (λ u k b. elim below [
       | inl inside ↦ elim b [ inl low ↦ (omega arith, omega arith) | inr at ↦ let e : u ≡ t = at.0 in (omega arith, omega arith) ]
       | inr end ↦ let f : t ≡ trace.horizon = end.0 in let g : m ≡ 0 = end.1 in elim b [ inl low ↦ (omega arith, omega arith) | inr at ↦ let e : k < m = at.1 in absurd (omega arith) ]
@@ -255,36 +255,36 @@ begun_low p w h low =
     let sg : w.timing.sg ≤ 1024 = low.sound.sg_most in
     record { sound = low.sound; number = low.number; due = omega arith; gap = omega arith }
 
-far_begun : (watches : List Watch) (clock : Clock) (now : Clock) (q k : ℕ) (w : Watch) (x : Entry) → q ≤ 1280 → x.moment < 2 ^ 40 → end_of x < 2 ^ 41 → slice_get watches k ≡ Some w → AreFar watches clock → now.moment ≡ x.moment → now.end ≡ max clock.end (end_of x) → AreFar (set watches k (begun (q + x.moment) w)) now
-far_begun watches clock now q k w x quiet low short at far m e = record {
+far_begun : (watches : List Watch) (progress : Progress) (now : Progress) (q k : ℕ) (w : Watch) (x : Entry) → q ≤ 1280 → x.moment < 2 ^ 40 → end_of x < 2 ^ 41 → slice_get watches k ≡ Some w → AreFar watches progress → now.moment ≡ x.moment → now.end ≡ max progress.end (end_of x) → AreFar (set watches k (begun (q + x.moment) w)) now
+far_begun watches progress now q k w x quiet low short at far m e = record {
   low = λ j v h. elim (cases_eq k j) [
     | inl same ↦
         let is : v ≡ begun (q + x.moment) w = same_some v _ (sym h ∙ ap (slice_get (set watches k (begun (q + x.moment) w))) (sym same) ∙ get_set_same watches k (begun (q + x.moment) w) (slice_get_within watches k w at)) in
         subst IsLow (sym is) (begun_low (q + x.moment) w (omega arith) (far.low k w at))
     | inr apart ↦ far.low j v (sym (get_set_other watches k j (begun (q + x.moment) w) apart) ∙ h)
   ];
-  moment = let f : clock.moment < 2 ^ 41 = far.moment in omega arith;
-  end = let f : clock.end < 2 ^ 41 = far.end in omega arith;
+  moment = let f : progress.moment < 2 ^ 41 = far.moment in omega arith;
+  end = let f : progress.end < 2 ^ 41 = far.end in omega arith;
 }
 
-pub behind_entry : (table : Table) (trace : Recording) (watches : List Watch) (clock now : Clock) (k q : ℕ) (s : Sender) (w : Watch) (x : Entry) → TestDecides → IsTrue (is_valid table) → IsTrace trace → In x trace.list → q ≡ quiet_of table → q ≤ 1280 → x.moment < 2 ^ 40 → end_of x < 2 ^ 41
-    → Arrived table trace watches clock.moment clock.end x.moment x.terminal → AreFar watches clock → position (λ s. s.number == x.terminal) table.senders ≡ Some k → At table watches k s w
-    → None ≡ flaw (nat_lt 0 w.left) (nat_le (ready w) (quiet_of table + x.moment)) (fits s x.message) → now.moment ≡ x.moment → now.end ≡ max clock.end (end_of x)
+pub behind_entry : (table : Table) (trace : Recording) (watches : List Watch) (progress now : Progress) (k q : ℕ) (s : Sender) (w : Watch) (x : Entry) → TestDecides → IsTrue (is_valid table) → IsTrace trace → In x trace.list → q ≡ quiet_of table → q ≤ 1280 → x.moment < 2 ^ 40 → end_of x < 2 ^ 41
+    → Arrived table trace watches progress.moment progress.end x.moment x.terminal → AreFar watches progress → position (λ s. s.number == x.terminal) table.senders ≡ Some k → At table watches k s w
+    → None ≡ flaw (nat_lt 0 w.left) (nat_le (ready w) (quiet_of table + x.moment)) (fits s x.message) → now.moment ≡ x.moment → now.end ≡ max progress.end (end_of x)
     → Behind table trace now (set watches k (begun (q + x.moment) w)) x.moment x.terminal
-behind_entry table trace watches clock now k q s w x d valid t i quiet few low short a far place at fine m e =
+behind_entry table trace watches progress now k q s w x d valid t i quiet few low short a far place at fine m e =
     let is : sender_of table.senders x.terminal ≡ Some s = (at_place table.senders x.terminal k place).1 ∙ at.sender in
     let number : s.number ≡ x.terminal = number_is table.senders x.terminal s is in
     let parts = flaw_left (nat_lt 0 w.left) (nat_le (ready w) (quiet_of table + x.moment)) (fits s x.message) fine in
     let left : 0 < w.left = ltb-true 0 w.left parts.0 in
-    let late : clock.moment ≤ x.moment = begun_by table trace watches clock.moment clock.end k s w x a place at fine in
-    let kind : kind_at table trace x.moment x.terminal ≡ None = entry_kind table trace watches clock.moment clock.end k s w x d t i a at is number ∙ sym fine in
+    let late : progress.moment ≤ x.moment = begun_by table trace watches progress.moment progress.end k s w x a place at fine in
+    let kind : kind_at table trace x.moment x.terminal ≡ None = entry_kind table trace watches progress.moment progress.end k s w x d t i a at is number ∙ sym fine in
     record {
       moment = m;
       stands = subst (λ p. Stands table trace (set watches k (begun (p + x.moment) w)) x.moment (x.terminal + 1)) (sym quiet)
           (begun_stands table trace watches k s w x (seated table valid) t.order i at number left kind (a.stands late));
       near = subst (λ p. Near trace.list x.moment p (x.terminal + 1)) (sym e)
-          (begun_near trace.list x clock.end t.order i (below_in trace.horizon trace.list t.list x i).message.some (a.near late));
-      far = far_begun watches clock now q k w x few low short at.watch far m e;
+          (begun_near trace.list x progress.end t.order i (below_in trace.horizon trace.list t.list x i).message.some (a.near late));
+      far = far_begun watches progress now q k w x few low short at.watch far m e;
     }
 
 -- ---- the list
@@ -299,15 +299,15 @@ precedes_not : (x y : Entry) → Precedes x y → NotBefore y.moment y.terminal 
 precedes_not x y (inl less) = inl less
 precedes_not x y (inr same) = let e : x.moment ≡ y.moment = same.0 in let f : x.terminal < y.terminal = same.1 in inr (omega arith, omega arith)
 
-pub judged_entry : (table : Table) (trace : Recording) (clock : Clock) (watches : List Watch) (i : ℕ) (x : Entry) → IsTrace trace → slice_get trace.list i ≡ Some x → JudgedTo table trace clock watches i → Judged table trace clock watches x.moment x.terminal
-judged_entry table trace clock watches i x t at j = record {
+pub judged_entry : (table : Table) (trace : Recording) (progress : Progress) (watches : List Watch) (i : ℕ) (x : Entry) → IsTrace trace → slice_get trace.list i ≡ Some x → JudgedTo table trace progress watches i → Judged table trace progress watches x.moment x.terminal
+judged_entry table trace progress watches i x t at j = record {
   number = j.number;
   stands = j.stands;
   near = j.near;
   none = λ y there new before.
       let p = in_at trace.list y there in
       elim (cases_lt p.0 i) [
-        | inl old ↦ not_both y.moment y.terminal clock.moment j.number (j.before p.0 y p.1 old) new
+        | inl old ↦ not_both y.moment y.terminal progress.moment j.number (j.before p.0 y p.1 old) new
         | inr rest ↦ elim (cases_lt i p.0) [
           | inl later ↦ not_both y.moment y.terminal x.moment x.terminal before (precedes_not x y (precedes_at trace.list i p.0 x y t.order at p.1 later))
           | inr here ↦
@@ -320,11 +320,11 @@ judged_entry table trace clock watches i x t at j = record {
   far = j.far;
 }
 
-pub judged_more : (table : Table) (trace : Recording) (clock : Clock) (watches : List Watch) (i : ℕ) (x : Entry) → IsTrace trace → slice_get trace.list i ≡ Some x → Behind table trace clock watches x.moment x.terminal → JudgedTo table trace clock watches (i + 1)
-judged_more table trace clock watches i x t at b = record {
+pub judged_more : (table : Table) (trace : Recording) (progress : Progress) (watches : List Watch) (i : ℕ) (x : Entry) → IsTrace trace → slice_get trace.list i ≡ Some x → Behind table trace progress watches x.moment x.terminal → JudgedTo table trace progress watches (i + 1)
+judged_more table trace progress watches i x t at b = record {
   number = x.terminal + 1;
   stands = subst (λ u. Stands table trace watches u (x.terminal + 1)) (sym b.moment) b.stands;
-  near = subst (λ u. Near trace.list u clock.end (x.terminal + 1)) (sym b.moment) b.near;
+  near = subst (λ u. Near trace.list u progress.end (x.terminal + 1)) (sym b.moment) b.near;
   before = λ k y h low. subst (λ u. IsBefore y.moment y.terminal u (x.terminal + 1)) (sym b.moment) (elim (cases_lt k i) [
     | inl old ↦ elim (precedes_at trace.list k i y x t.order h at old) [ inl less ↦ inl less | inr same ↦ let f : y.terminal < x.terminal = same.1 in inr (same.0, omega arith) ]
     | inr here ↦
@@ -333,7 +333,7 @@ judged_more table trace clock watches i x t at b = record {
         inr (ap (λ (z : Entry). z.moment) e, (let f : y.terminal ≡ x.terminal = ap (λ (z : Entry). z.terminal) e in omega arith))
   ]);
   behind = λ k y h high. subst (λ u. NotBefore y.moment y.terminal u (x.terminal + 1)) (sym b.moment) (elim (precedes_at trace.list i k x y t.order at h (omega arith)) [ inl less ↦ inl less | inr same ↦ let e : x.moment ≡ y.moment = same.0 in let f : x.terminal < y.terminal = same.1 in inr (omega arith, omega arith) ]);
-  upto = inl (let e : clock.moment ≡ x.moment = b.moment in let f : x.moment < trace.horizon = (below_in trace.horizon trace.list t.list x (at_in trace.list i x at)).moment in omega arith);
+  upto = inl (let e : progress.moment ≡ x.moment = b.moment in let f : x.moment < trace.horizon = (below_in trace.horizon trace.list t.list x (at_in trace.list i x at)).moment in omega arith);
   far = b.far;
 }
 
@@ -344,8 +344,8 @@ settled_low table trace s sound few =
     let c : (timing_of table s).due < 128000 = sound.due_most in
     record { sound = sound; number = few; due = omega arith; gap = omega arith }
 
-pub judged_none : (table : Table) (trace : Recording) (clock : Clock) (watches : List Watch) → IsTrue (is_valid table) → clock.moment ≡ 0 → clock.end ≡ 0 → watches ≡ map (settled table trace.holds) table.senders → JudgedTo table trace clock watches 0
-judged_none table trace clock watches valid a b are =
+pub judged_none : (table : Table) (trace : Recording) (progress : Progress) (watches : List Watch) → IsTrue (is_valid table) → progress.moment ≡ 0 → progress.end ≡ 0 → watches ≡ map (settled table trace.holds) table.senders → JudgedTo table trace progress watches 0
+judged_none table trace progress watches valid a b are =
     let settled_at : (j : ℕ) (s : Sender) (w : Watch) → At table watches j s w → w ≡ settled table trace.holds s = λ j s w at.
     same_some w (settled table trace.holds s) (sym at.watch ∙ ap (λ ws. slice_get ws j) are ∙ slice_get-map (settled table trace.holds) table.senders j ∙ ap (option_map (settled table trace.holds)) at.sender) in
     record {
@@ -359,7 +359,7 @@ judged_none table trace clock watches valid a b are =
       });
       near = record { old = λ x i low. absurd (omega arith); now = inl (record { over = omega arith; none = λ x i f g. omega arith }) };
       before = λ k x h low. absurd (omega arith);
-      behind = λ k x h low. elim (cases_lt clock.moment x.moment) [ inl later ↦ inl later | inr now ↦ inr (omega arith, omega arith) ];
+      behind = λ k x h low. elim (cases_lt progress.moment x.moment) [ inl later ↦ inl later | inr now ↦ inr (omega arith, omega arith) ];
       upto = inr (a, refl);
       far = record {
         low = λ j w h.
@@ -373,15 +373,15 @@ judged_none table trace clock watches valid a b are =
     }
 
 -- to the horizon
-pub judged_all : (table : Table) (trace : Recording) (clock : Clock) (watches : List Watch) (i : ℕ) → length trace.list ≤ i → JudgedTo table trace clock watches i → Judged table trace clock watches trace.horizon 0
-judged_all table trace clock watches i past j = record {
+pub judged_all : (table : Table) (trace : Recording) (progress : Progress) (watches : List Watch) (i : ℕ) → length trace.list ≤ i → JudgedTo table trace progress watches i → Judged table trace progress watches trace.horizon 0
+judged_all table trace progress watches i past j = record {
   number = j.number;
   stands = j.stands;
   near = j.near;
-  none = λ y there new before. let p = in_at trace.list y there in let k : p.0 < length trace.list = slice_get_within trace.list p.0 y p.1 in not_both y.moment y.terminal clock.moment j.number (j.before p.0 y p.1 (omega arith)) new;
+  none = λ y there new before. let p = in_at trace.list y there in let k : p.0 < length trace.list = slice_get_within trace.list p.0 y p.1 in not_both y.moment y.terminal progress.moment j.number (j.before p.0 y p.1 (omega arith)) new;
   upto = elim j.upto [
     | inl below ↦ inl below
-    | inr none ↦ let a : clock.moment ≡ 0 = none.0 in let b : j.number ≡ 0 = none.1 in elim (cases_lt clock.moment trace.horizon) [ inl less ↦ inl less | inr not ↦ inr (omega arith, omega arith) ]
+    | inr none ↦ let a : progress.moment ≡ 0 = none.0 in let b : j.number ≡ 0 = none.1 in elim (cases_lt progress.moment trace.horizon) [ inl less ↦ inl less | inr not ↦ inr (omega arith, omega arith) ]
   ];
   far = j.far;
 }

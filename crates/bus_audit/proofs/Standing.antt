@@ -72,7 +72,7 @@ stands_on table trace watches t n m d seated st up none missed = record {
 pub record Over (table : Table) (trace : Recording) (watches : List Watch) (t : ℕ) : Type 0 where
   pub clean : IsCleanTo table trace (t + 1) 0
   pub same_length : length watches ≡ length table.senders
-  pub keeps : (j : ℕ) (s : Sender) (w : Watch) → At table watches j s w → Keeps table trace s w t (t + 1)
+  pub timers : (j : ℕ) (s : Sender) (w : Watch) → At table watches j s w → Keeps table trace s w t (t + 1)
   pub spoken : (j : ℕ) (s : Sender) (w : Watch) → At table watches j s w → 0 < w.left → quiet_of table + t < ready w
 
 pub stands_over : (table : Table) (trace : Recording) (watches : List Watch) (t n : ℕ) → TestDecides → Seated table → Stands table trace watches t n
@@ -80,7 +80,7 @@ pub stands_over : (table : Table) (trace : Recording) (watches : List Watch) (t 
 stands_over table trace watches t n d seated st none missed = record {
   clean = silence_clean table trace watches t t n t (t + 1) 0 d seated (stands_told table trace watches t n st) (λ u k b. elim b [ inl less ↦ omega arith | inr same ↦ let e : k < 0 = same.1 in absurd (omega arith) ]) none missed;
   same_length = st.same_length;
-  keeps = λ j s w at. elim (cases_lt s.number n) [
+  timers = λ j s w at. elim (cases_lt s.number n) [
     | inl old ↦ st.done j s w at old
     | inr new ↦ keeps_cut table trace s w t t (t + 1) (own_later trace.list s.number t (t + 1) (omega arith) (λ x i e f g. let at_t : x.moment ≡ t = omega arith in none x i (inr (at_t, omega arith)) (inl (omega arith)))) (st.ahead j s w at new)
   ];
@@ -98,7 +98,7 @@ stands_over table trace watches t n d seated st none missed = record {
 -- the watches tell who may start from behind moment t on up to moment top; from moment c on they keep the timers
 pub record Onward (table : Table) (trace : Recording) (watches : List Watch) (t c top : ℕ) : Type 0 where
   pub told : Told table trace watches c (t + 1) 0 top
-  pub keeps : (j : ℕ) (s : Sender) (w : Watch) → At table watches j s w → c ≤ top → Keeps table trace s w top top
+  pub timers : (j : ℕ) (s : Sender) (w : Watch) → At table watches j s w → c ≤ top → Keeps table trace s w top top
   pub after : t ≤ c
 
 -- no transmission begins behind moment t and before moment top
@@ -134,13 +134,13 @@ calm_onward table trace watches t top ov old now less none =
       told = record {
         clean = ov.clean;
         same_length = ov.same_length;
-        numbers = λ j s w at. (ov.keeps j s w at).number;
-        tells = λ j s w u at new high. keeps_tells table trace s w u (calm_keeps table trace s w t u top old now none (behind_of t u s.number new) high (ov.keeps j s w at));
+        numbers = λ j s w at. (ov.timers j s w at).number;
+        tells = λ j s w u at new high. keeps_tells table trace s w u (calm_keeps table trace s w t u top old now none (behind_of t u s.number new) high (ov.timers j s w at));
         late = λ j s w u at new high is. let h : t < u = behind_of t u s.number new in omega arith;
         later = λ j s w at left. let h : quiet_of table + t < ready w = ov.spoken j s w at left in
             elim (cases_lt (t + 1) (ready_moment (quiet_of table) t w)) [ inl more ↦ inl more | inr not ↦ inr (omega arith, omega arith) ];
       };
-      keeps = λ j s w at high. calm_keeps table trace s w t top top old now none less (omega arith) (ov.keeps j s w at);
+      timers = λ j s w at high. calm_keeps table trace s w t top top old now none less (omega arith) (ov.timers j s w at);
       after = omega arith;
     }
 
@@ -186,17 +186,17 @@ group_onward table trace watches t e top ov busy ended none =
       told = record {
         clean = ov.clean;
         same_length = length-map watches (passed (q + t) (q + e)) ∙ ov.same_length;
-        numbers = λ j s w at. let p = passed_at table watches (q + t) (q + e) j s w at in ap (λ (x : Watch). x.number) p.2 ∙ (ov.keeps j s p.0 p.1).number;
+        numbers = λ j s w at. let p = passed_at table watches (q + t) (q + e) j s w at in ap (λ (x : Watch). x.number) p.2 ∙ (ov.timers j s p.0 p.1).number;
         tells = λ j s w u at new high. let p = passed_at table watches (q + t) (q + e) j s w at in
-            subst (λ x. Tells table trace s x u) (sym p.2) (group_tells table trace s p.0 t e u top busy ended none (behind_of t u s.number new) high (ov.keeps j s p.0 p.1));
+            subst (λ x. Tells table trace s x u) (sym p.2) (group_tells table trace s p.0 t e u top busy ended none (behind_of t u s.number new) high (ov.timers j s p.0 p.1));
         late = λ j s w u at new high is. let p = passed_at table watches (q + t) (q + e) j s w at in
             let h : q + e ≤ (passed (q + t) (q + e) p.0).gap = passed_late q t e p.0 in
             let g : w.gap ≡ (passed (q + t) (q + e) p.0).gap = ap (λ (x : Watch). x.gap) p.2 in
             omega arith;
         later = λ j s w at left. elim (cases_lt (t + 1) (ready_moment q e w)) [ inl more ↦ inl more | inr not ↦ inr (omega arith, omega arith) ];
       };
-      keeps = λ j s w at high. let p = passed_at table watches (q + t) (q + e) j s w at in
-          subst (λ x. Keeps table trace s x top top) (sym p.2) (group_keeps table trace s p.0 t e top top busy ended none high (omega arith) (ov.keeps j s p.0 p.1));
+      timers = λ j s w at high. let p = passed_at table watches (q + t) (q + e) j s w at in
+          subst (λ x. Keeps table trace s x top top) (sym p.2) (group_keeps table trace s p.0 t e top top busy ended none high (omega arith) (ov.timers j s p.0 p.1));
       after = omega arith;
     }
 
@@ -226,8 +226,8 @@ arrived_on table trace watches t c e top m d seated on less past_end ended none 
       stands = λ h. record {
         clean = clean;
         same_length = on.told.same_length;
-        done = λ j s w at low. keeps_cut table trace s w top top (top + 1) (own_later trace.list s.number top (top + 1) (omega arith) (λ x i f g k. let at_top : x.moment ≡ top = omega arith in none x i (from x.moment x.terminal (omega arith)) (inr (at_top, omega arith)))) (on.keeps j s w at h);
-        ahead = λ j s w at high. on.keeps j s w at h;
+        done = λ j s w at low. keeps_cut table trace s w top top (top + 1) (own_later trace.list s.number top (top + 1) (omega arith) (λ x i f g k. let at_top : x.moment ≡ top = omega arith in none x i (from x.moment x.terminal (omega arith)) (inr (at_top, omega arith)))) (on.timers j s w at h);
+        ahead = λ j s w at high. on.timers j s w at h;
         spoken = λ j s w at low left.
             let f : pair top m ≤ turn (quiet_of table) c w = missed j w at.watch left in
             let g : w.number ≡ s.number = on.told.numbers j s w at in

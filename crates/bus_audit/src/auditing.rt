@@ -4,8 +4,8 @@ ghost use Rattle.bus_strings.specs.Transmissions.{IsAscending};
 ghost use Rattle.bus_audit.specs.Breaches.{IsAnswer, answer_of, garbled_count};
 
 use crate::answer::AuditAnswer;
-use crate::keep::keep_all;
 use crate::laws::one_answer;
+use crate::lazy_timers::lazy_all;
 use crate::settle::settle_all;
 use crate::walk::walk;
 use bus_strings::laws::neighbours_tell;
@@ -39,8 +39,8 @@ pub fn audit(alloc: Global, table: &Table, trace: &Trace) -> Result<AuditAnswer,
     let _valid = table.senders();
     let _ranges = trace.list();
     let watches = settle_all(alloc, table, trace.holds())?;
-    let mut keeps = keep_all(alloc, &watches)?;
-    match walk(table, trace, &mut keeps) {
+    let mut timers = lazy_all(alloc, &watches)?;
+    match walk(table, trace, &mut timers) {
         Err(found) => Ok(AuditAnswer::Breach {
             moment: found.moment,
             terminal: found.terminal,

@@ -17,12 +17,12 @@
 mod answer;
 mod auditing;
 mod check;
-mod clock;
 mod entry;
 mod finding;
-mod keep;
 pub mod laws;
+mod lazy_timers;
 mod line;
+mod progress;
 mod settle;
 mod walk;
 mod watch;

@@ -5,15 +5,15 @@ ghost use Rattle.bus_medium.specs.Timings.{quiet_of};
 ghost use Rattle.bus_audit.specs.Breaches.{IsFirstBreach, HasNoBreach};
 ghost use Rattle.bus_audit.specs.inside.Watches as sums;
 ghost use Rattle.bus_audit.specs.inside.Watches.{AreLow};
-ghost use Rattle.bus_audit.specs.inside.Keeping.{keep_of, watches_of, told_busy, AreKept, AreStill, NotSooner};
+ghost use Rattle.bus_audit.specs.inside.Keeping.{lazy_of, watches_of, told_busy, AreKept, AreStill, NotSooner};
 ghost use Rattle.bus_audit.specs.inside.Standing.{AreFar, Judged, Closed, Behind, Arrived};
 
 use crate::answer::BreachKind;
 use crate::check::{check_again, check_behind, soonest};
-use crate::clock::Clock;
 use crate::entry::judge;
 use crate::finding::Finding;
-use crate::keep::{Heard, Keep};
+use crate::lazy_timers::{Heard, LazyTimers};
+use crate::progress::Progress;
 use bus_medium::quiet;
 use bus_strings::{Transmission, bits};
 use bus_table::{Table, place_of};
@@ -21,25 +21,25 @@ use bus_timers::laws::test_decides;
 use bus_trace::Trace;
 
 /// The bus became busy at a place: each sender's synchronization gap may have elapsed before.
-fn pass_each(keeps: &mut [Keep], heard: Heard, from: u64)
-    requires low { AreLow (watches_of heard keeps.old) }
-    ensures { keeps.new ≡ map (told_busy heard from) keeps.old }
+fn pass_each(timers: &mut [LazyTimers], heard: Heard, from: u64)
+    requires low { AreLow (watches_of heard timers.old) }
+    ensures { timers.new ≡ map (told_busy heard from) timers.old }
 {
-    for keep in keeps.iter_mut() {
-        keep.pass(heard, from);
+    for lazy in timers.iter_mut() {
+        lazy.pass(heard, from);
     }
 }
 
 /// The bus was busy from one place to another. What is kept of the senders changes only where a synchronization gap may have
 /// elapsed before.
-fn pass_all(heard: Heard, keeps: &mut [Keep], from: u64, to: u64) -> Heard
-    requires low { AreLow (watches_of heard keeps.old) }
-    requires kept { AreKept heard from to keeps.old }
+fn pass_all(heard: Heard, timers: &mut [LazyTimers], from: u64, to: u64) -> Heard
+    requires low { AreLow (watches_of heard timers.old) }
+    requires kept { AreKept heard from to timers.old }
     requires order { from < to }
     requires to { to < 2 ^ 43 }
-    ensures watches { watches_of result keeps.new ≡ map (sums.passed from to) (watches_of heard keeps.old) }
-    ensures still { AreStill result to keeps.new }
-    ensures sooner { (first : ℕ) → NotSooner first (watches_of heard keeps.old) → NotSooner first (watches_of result keeps.new) }
+    ensures watches { watches_of result timers.new ≡ map (sums.passed from to) (watches_of heard timers.old) }
+    ensures still { AreStill result to timers.new }
+    ensures sooner { (first : ℕ) → NotSooner first (watches_of heard timers.old) → NotSooner first (watches_of result timers.new) }
 {
     let now = Heard {
         from,
@@ -49,74 +49,79 @@ fn pass_all(heard: Heard, keeps: &mut [Keep], from: u64, to: u64) -> Heard
     if from < heard.ended + u64::from(heard.sg) {
         return now;
     }
-    pass_each(keeps, heard, from);
+    pass_each(timers, heard, from);
     now
 }
 
-/// When the transmissions have ended that began at the moment of the clock.
-fn rest(quiet: u32, clock: Clock, heard: &mut Heard, keeps: &mut [Keep]) -> Clock
+/// When the transmissions have ended that began at the moment to which the audit has come.
+fn rest(quiet: u32, progress: Progress, heard: &mut Heard, timers: &mut [LazyTimers]) -> Progress
     requires quiet { quiet ≤ 1280 }
-    requires far { AreFar (watches_of heard.old keeps.old) clock }
-    requires kept { AreKept heard.old (quiet + clock.moment) (quiet + clock.end) keeps.old }
-    ensures calm { clock.end ≤ clock.moment → result ≡ clock }
-    ensures same { clock.end ≤ clock.moment → watches_of heard.new keeps.new ≡ watches_of heard.old keeps.old }
-    ensures busy { clock.moment < clock.end → result ≡ record { moment = clock.end; end = clock.end } }
-    ensures passed { clock.moment < clock.end → watches_of heard.new keeps.new
-        ≡ map (sums.passed (quiet + clock.moment) (quiet + clock.end)) (watches_of heard.old keeps.old) }
-    ensures far { AreFar (watches_of heard.new keeps.new) result }
-    ensures still { AreStill heard.new (quiet + result.moment) keeps.new }
-    ensures sooner { (first : ℕ) → NotSooner first (watches_of heard.old keeps.old) → NotSooner first (watches_of heard.new keeps.new) }
+    requires far { AreFar (watches_of heard.old timers.old) progress }
+    requires kept { AreKept heard.old (quiet + progress.moment) (quiet + progress.end) timers.old }
+    ensures calm { progress.end ≤ progress.moment → result ≡ progress }
+    ensures same { progress.end ≤ progress.moment → watches_of heard.new timers.new ≡ watches_of heard.old timers.old }
+    ensures busy { progress.moment < progress.end → result ≡ record { moment = progress.end; end = progress.end } }
+    ensures passed { progress.moment < progress.end → watches_of heard.new timers.new
+        ≡ map (sums.passed (quiet + progress.moment) (quiet + progress.end)) (watches_of heard.old timers.old) }
+    ensures far { AreFar (watches_of heard.new timers.new) result }
+    ensures still { AreStill heard.new (quiet + result.moment) timers.new }
+    ensures sooner { (first : ℕ) → NotSooner first (watches_of heard.old timers.old) → NotSooner first (watches_of heard.new timers.new) }
 {
-    if clock.end <= clock.moment {
-        return clock;
+    if progress.end <= progress.moment {
+        return progress;
     }
     let quiet = u64::from(quiet);
-    *heard = pass_all(*heard, keeps, quiet + clock.moment, quiet + clock.end);
-    Clock {
-        moment: clock.end,
-        end: clock.end,
+    *heard = pass_all(
+        *heard,
+        timers,
+        quiet + progress.moment,
+        quiet + progress.end,
+    );
+    Progress {
+        moment: progress.end,
+        end: progress.end,
     }
 }
 
-/// Closes the moment of the clock, where it lies before the moment that is asked for.
+/// Closes that moment, where it lies before the one that is asked for.
 fn close(
     table: &Table,
     trace: &Trace,
     quiet: u32,
-    clock: Clock,
+    progress: Progress,
     heard: &mut Heard,
-    keeps: &mut [Keep],
+    timers: &mut [LazyTimers],
     first: u64,
     moment: u64,
     terminal: u8,
-) -> Result<Clock, Finding>
+) -> Result<Progress, Finding>
     requires quiet { quiet ≡ quiet_of table.now }
     requires least { quiet ≤ 1280 }
     requires below { moment ≤ trace.now.horizon }
-    requires judged { Judged table.now trace.now clock (watches_of heard.old keeps.old) moment terminal }
-    requires kept { AreKept heard.old (quiet + clock.moment) (quiet + clock.end) keeps.old }
-    requires first { NotSooner first (watches_of heard.old keeps.old) }
-    ensures ok { IfOk result (λ now. Closed table.now trace.now now (watches_of heard.new keeps.new) moment terminal) }
-    ensures kept { IfOk result (λ now. now.moment ≤ moment → AreKept heard.new (quiet + moment) (quiet + now.end) keeps.new) }
-    ensures first { OnOk result (NotSooner first (watches_of heard.new keeps.new)) }
+    requires judged { Judged table.now trace.now progress (watches_of heard.old timers.old) moment terminal }
+    requires kept { AreKept heard.old (quiet + progress.moment) (quiet + progress.end) timers.old }
+    requires first { NotSooner first (watches_of heard.old timers.old) }
+    ensures ok { IfOk result (λ now. Closed table.now trace.now now (watches_of heard.new timers.new) moment terminal) }
+    ensures kept { IfOk result (λ now. now.moment ≤ moment → AreKept heard.new (quiet + moment) (quiet + now.end) timers.new) }
+    ensures first { OnOk result (NotSooner first (watches_of heard.new timers.new)) }
     ensures err { IfErr result (λ found. IsFirstBreach table.now trace.now found.moment found.terminal found.kind) }
 {
     test_decides();
     let _valid = table.senders();
     let _ranges = trace.list();
-    if moment == clock.moment {
-        return Ok(clock);
+    if moment == progress.moment {
+        return Ok(progress);
     }
     check_behind(
         quiet,
-        clock.moment,
+        progress.moment,
         *heard,
-        keeps,
+        timers,
         first,
-        clock.moment + 1,
+        progress.moment + 1,
         0,
     )?;
-    Ok(rest(quiet, clock, heard, keeps))
+    Ok(rest(quiet, progress, heard, timers))
 }
 
 /// Goes on to a pair, over pairs without entries. The error is the first of them at which a sender is missed.
@@ -124,31 +129,39 @@ fn reach(
     table: &Table,
     trace: &Trace,
     quiet: u32,
-    clock: Clock,
+    progress: Progress,
     heard: &mut Heard,
-    keeps: &mut [Keep],
+    timers: &mut [LazyTimers],
     moment: u64,
     terminal: u8,
-) -> Result<Clock, Finding>
+) -> Result<Progress, Finding>
     requires quiet { quiet ≡ quiet_of table.now }
     requires least { quiet ≤ 1280 }
     requires below { (moment < trace.now.horizon) ⊎ ((moment ≡ trace.now.horizon) × (terminal ≡ 0)) }
-    requires judged { Judged table.now trace.now clock (watches_of heard.old keeps.old) moment terminal }
-    requires kept { AreKept heard.old (quiet + clock.moment) (quiet + clock.end) keeps.old }
-    ensures ok { IfOk result (λ now. Arrived table.now trace.now (watches_of heard.new keeps.new) now.moment now.end moment terminal) }
-    ensures far { IfOk result (λ now. AreFar (watches_of heard.new keeps.new) now) }
-    ensures kept { IfOk result (λ now. now.moment ≤ moment → AreKept heard.new (quiet + moment) (quiet + now.end) keeps.new) }
+    requires judged { Judged table.now trace.now progress (watches_of heard.old timers.old) moment terminal }
+    requires kept { AreKept heard.old (quiet + progress.moment) (quiet + progress.end) timers.old }
+    ensures ok { IfOk result (λ now. Arrived table.now trace.now (watches_of heard.new timers.new) now.moment now.end moment terminal) }
+    ensures far { IfOk result (λ now. AreFar (watches_of heard.new timers.new) now) }
+    ensures kept { IfOk result (λ now. now.moment ≤ moment → AreKept heard.new (quiet + moment) (quiet + now.end) timers.new) }
     ensures err { IfErr result (λ found. IsFirstBreach table.now trace.now found.moment found.terminal found.kind) }
 {
     test_decides();
     let _valid = table.senders();
     let _ranges = trace.list();
-    let first = soonest(*heard, keeps);
-    let clock = close(
-        table, trace, quiet, clock, heard, keeps, first, moment, terminal,
+    let first = soonest(*heard, timers);
+    let progress = close(
+        table, trace, quiet, progress, heard, timers, first, moment, terminal,
     )?;
-    check_again(quiet, clock.moment, *heard, keeps, first, moment, terminal)?;
-    Ok(clock)
+    check_again(
+        quiet,
+        progress.moment,
+        *heard,
+        timers,
+        first,
+        moment,
+        terminal,
+    )?;
+    Ok(progress)
 }
 
 /// Judges an entry that was reached, and lets its sender begin.
@@ -156,19 +169,19 @@ fn enter(
     table: &Table,
     trace: &Trace,
     quiet: u32,
-    clock: Clock,
+    progress: Progress,
     heard: Heard,
-    keeps: &mut [Keep],
+    timers: &mut [LazyTimers],
     x: &Transmission,
-) -> Result<Clock, Finding>
+) -> Result<Progress, Finding>
     requires quiet { quiet ≡ quiet_of table.now }
     requires least { quiet ≤ 1280 }
     requires there { In x.now trace.now.list }
-    requires arrived { Arrived table.now trace.now (watches_of heard keeps.old) clock.moment clock.end x.now.moment x.now.terminal }
-    requires far { AreFar (watches_of heard keeps.old) clock }
-    requires kept { clock.moment ≤ x.now.moment → AreKept heard (quiet + x.now.moment) (quiet + clock.end) keeps.old }
-    ensures ok { IfOk result (λ now. Behind table.now trace.now now (watches_of heard keeps.new) x.now.moment x.now.terminal) }
-    ensures kept { IfOk result (λ now. AreKept heard (quiet + now.moment) (quiet + now.end) keeps.new) }
+    requires arrived { Arrived table.now trace.now (watches_of heard timers.old) progress.moment progress.end x.now.moment x.now.terminal }
+    requires far { AreFar (watches_of heard timers.old) progress }
+    requires kept { progress.moment ≤ x.now.moment → AreKept heard (quiet + x.now.moment) (quiet + progress.end) timers.old }
+    ensures ok { IfOk result (λ now. Behind table.now trace.now now (watches_of heard timers.new) x.now.moment x.now.terminal) }
+    ensures kept { IfOk result (λ now. AreKept heard (quiet + now.moment) (quiet + now.end) timers.new) }
     ensures err { IfErr result (λ found. IsFirstBreach table.now trace.now found.moment found.terminal found.kind) }
 {
     test_decides();
@@ -183,7 +196,7 @@ fn enter(
             kind: BreachKind::Stranger,
         });
     };
-    let watch = keeps[k].watch(heard);
+    let watch = timers[k].watch(heard);
     if let Some(kind) = judge(place, &senders[k], watch, &x.message) {
         return Err(Finding {
             moment: x.moment,
@@ -191,10 +204,10 @@ fn enter(
             kind,
         });
     }
-    keeps[k] = keeps[k].begun(heard, place);
-    Ok(Clock {
+    timers[k] = timers[k].begun(heard, place);
+    Ok(Progress {
         moment: x.moment,
-        end: x.end().max(clock.end),
+        end: x.end().max(progress.end),
     })
 }
 
@@ -203,45 +216,47 @@ fn step(
     table: &Table,
     trace: &Trace,
     quiet: u32,
-    clock: Clock,
+    progress: Progress,
     heard: &mut Heard,
-    keeps: &mut [Keep],
+    timers: &mut [LazyTimers],
     x: &Transmission,
-) -> Result<Clock, Finding>
+) -> Result<Progress, Finding>
     requires quiet { quiet ≡ quiet_of table.now }
     requires least { quiet ≤ 1280 }
     requires there { In x.now trace.now.list }
-    requires judged { Judged table.now trace.now clock (watches_of heard.old keeps.old) x.now.moment x.now.terminal }
-    requires kept { AreKept heard.old (quiet + clock.moment) (quiet + clock.end) keeps.old }
-    ensures ok { IfOk result (λ now. Behind table.now trace.now now (watches_of heard.new keeps.new) x.now.moment x.now.terminal) }
-    ensures kept { IfOk result (λ now. AreKept heard.new (quiet + now.moment) (quiet + now.end) keeps.new) }
+    requires judged { Judged table.now trace.now progress (watches_of heard.old timers.old) x.now.moment x.now.terminal }
+    requires kept { AreKept heard.old (quiet + progress.moment) (quiet + progress.end) timers.old }
+    ensures ok { IfOk result (λ now. Behind table.now trace.now now (watches_of heard.new timers.new) x.now.moment x.now.terminal) }
+    ensures kept { IfOk result (λ now. AreKept heard.new (quiet + now.moment) (quiet + now.end) timers.new) }
     ensures err { IfErr result (λ found. IsFirstBreach table.now trace.now found.moment found.terminal found.kind) }
 {
     let _ranges = trace.list();
-    let clock = reach(
-        table, trace, quiet, clock, heard, keeps, x.moment, x.terminal,
+    let progress = reach(
+        table, trace, quiet, progress, heard, timers, x.moment, x.terminal,
     )?;
-    enter(table, trace, quiet, clock, *heard, keeps, x)
+    enter(table, trace, quiet, progress, *heard, timers, x)
 }
 
 /// Goes over all entries of a trace and on to its horizon. The error is the first breach.
-pub fn walk(table: &Table, trace: &Trace, keeps: &mut [Keep]) -> Result<(), Finding>
-    requires { keeps.old ≡ map keep_of (map (sums.settled table.now trace.now.holds) table.now.senders) }
+pub fn walk(table: &Table, trace: &Trace, timers: &mut [LazyTimers]) -> Result<(), Finding>
+    requires { timers.old ≡ map lazy_of (map (sums.settled table.now trace.now.holds) table.now.senders) }
     ensures ok { OnOk result (HasNoBreach table.now trace.now) }
     ensures err { IfErr result (λ found. IsFirstBreach table.now trace.now found.moment found.terminal found.kind) }
 {
     let quiet = quiet(table);
     let _valid = table.senders();
-    let mut clock = Clock { moment: 0, end: 0 };
+    let mut progress = Progress { moment: 0, end: 0 };
     let mut heard = Heard {
         from: 0,
         ended: 0,
         sg: table.sg(),
     };
     for x in trace.list() {
-        clock = step(table, trace, quiet, clock, &mut heard, keeps, x)?;
+        progress = step(table, trace, quiet, progress, &mut heard, timers, x)?;
     }
     let horizon = trace.horizon();
-    reach(table, trace, quiet, clock, &mut heard, keeps, horizon, 0)?;
+    reach(
+        table, trace, quiet, progress, &mut heard, timers, horizon, 0,
+    )?;
     Ok(())
 }

@@ -21,7 +21,7 @@ use Rattle.bus_medium.specs.CableLawful.{IsDueOnCable}
 use Rattle.bus_medium.proofs.BusyLaws.{entry_is_busy}
 use Rattle.bus_medium.proofs.PastLaws.{past_push, own_later, own_push, own_push_other, last_push, no_carrier}
 use Rattle.bus_medium.proofs.Hearing.{heard_push, not_before, own_none}
-use Rattle.bus_medium.specs.Clocks.{GapAt, Ticks, gap_behind, ClockTells}
+use Rattle.bus_medium.specs.Clocks.{GapAt, HasTimers, gap_behind, ClockTells}
 use Rattle.bus_medium.specs.inside.Lazy.{IsLate}
 use Rattle.bus_medium.proofs.Waking.{length_woken, at_quiets, busy_elapsed_at, busy_waiting_at, busy_waiting_whole, at_power_up, at_settled, at_start}
 
@@ -85,8 +85,8 @@ module _ (quiet : ℕ) (delay : Delays) (wake : Wakes) (s : Station) (sound : Is
   }
 
   -- a transmission of another
-  pub ticks_other : (list : List Entry) (x : Entry) (E D G C : ℕ) → Ticks quiet delay wake s list E D G C → E ≤ x.moment + delay x n → x.terminal ≢ n → 0 < length x.message
-      → Ticks quiet delay wake s (list ++ x ∷ []) (heard_end delay x n) D (gap_behind quiet gap_sg woke G (x.moment + delay x n) (heard_end delay x n)) C
+  pub ticks_other : (list : List Entry) (x : Entry) (E D G C : ℕ) → HasTimers quiet delay wake s list E D G C → E ≤ x.moment + delay x n → x.terminal ≢ n → 0 < length x.message
+      → HasTimers quiet delay wake s (list ++ x ∷ []) (heard_end delay x n) D (gap_behind quiet gap_sg woke G (x.moment + delay x n) (heard_end delay x n)) C
   ticks_other list x E D G C k low apart some =
       let bit : 0 < bits x.message = bits_some x.message some in
       let begin : ℕ = x.moment + delay x n in
@@ -178,9 +178,9 @@ module _ (quiet : ℕ) (delay : Delays) (wake : Wakes) (s : Station) (sound : Is
       }
 
   -- a transmission of its own
-  pub ticks_own : (list : List Entry) (x : Entry) (E D G C : ℕ) → Ticks quiet delay wake s list E D G C → E ≤ x.moment → x.terminal ≡ n → delay x n ≡ 0 → woke ≤ quiet + x.moment
+  pub ticks_own : (list : List Entry) (x : Entry) (E D G C : ℕ) → HasTimers quiet delay wake s list E D G C → E ≤ x.moment → x.terminal ≡ n → delay x n ≡ 0 → woke ≤ quiet + x.moment
       → 0 < length x.message
-      → Ticks quiet delay wake s (list ++ x ∷ []) (heard_end delay x n) (quiet + x.moment + s.timing.ti) (quiet + heard_end delay x n + gap_sg) (C + 1)
+      → HasTimers quiet delay wake s (list ++ x ∷ []) (heard_end delay x n) (quiet + x.moment + s.timing.ti) (quiet + heard_end delay x n + gap_sg) (C + 1)
   ticks_own list x E D G C k low mine none powered some =
       let bit : 0 < bits x.message = bits_some x.message some in
       let l : List Entry = heard delay n list ++ later (delay x n) x ∷ [] in
@@ -224,7 +224,7 @@ module _ (quiet : ℕ) (delay : Delays) (wake : Wakes) (s : Station) (sound : Is
       }
 
   -- before anything is sent
-  pub ticks_start : Ticks quiet delay wake s [] 0 (s.timing.quiet + s.timing.due + woke) (gap_sg + woke) 0
+  pub ticks_start : HasTimers quiet delay wake s [] 0 (s.timing.quiet + s.timing.due + woke) (gap_sg + woke) 0
   ticks_start = record {
     ended = λ x i. absurd i;
     begun = λ x i mine. absurd i;
@@ -243,7 +243,7 @@ module _ (quiet : ℕ) (delay : Delays) (wake : Wakes) (s : Station) (sound : Is
     counts = λ m over. refl;
   }
 
-  pub ticks_not_due : (list : List Entry) (E D G C u : ℕ) → Ticks quiet delay wake s list E D G C → E ≤ u
+  pub ticks_not_due : (list : List Entry) (E D G C u : ℕ) → HasTimers quiet delay wake s list E D G C → E ≤ u
       → IsLate quiet s D G C u → IsDueOnCable quiet delay wake list s u → ⊥
   ticks_not_due list E D G C u k low slow d =
       elim (cases_lt (quiet + u) woke) [
@@ -266,7 +266,7 @@ module _ (quiet : ℕ) (delay : Delays) (wake : Wakes) (s : Station) (sound : Is
       not_both len w m due D g G tg c C h a p r s x y z (inr (inr t)) = omega arith
 
   -- it is
-  pub ticks_due : (list : List Entry) (E D G C u : ℕ) → Ticks quiet delay wake s list E D G C → E ≤ u
+  pub ticks_due : (list : List Entry) (E D G C u : ℕ) → HasTimers quiet delay wake s list E D G C → E ≤ u
       → G + s.timing.tg ≤ quiet + u → D ≤ quiet + u → C < length s.hand → IsDueOnCable quiet delay wake list s u
   ticks_due list E D G C u k low gap_over due_over left =
       let woken : gap_sg + woke ≤ G = k.woken in

@@ -13,8 +13,8 @@ use Rattle.bus_medium.specs.Lawful.{Station}
 use Rattle.bus_medium.specs.Delays.{Delays, later, heard, heard_end}
 use Rattle.bus_medium.specs.Wakes.{Wakes, woken_place}
 use Rattle.bus_medium.specs.CableLawful.{IsDueOnCable, IsLawfulOnCableTo}
-pub use Rattle.bus_medium.specs.Clocks.{put, AreTimed, Known, Goes, goes_D, goes_G, goes_C}
-use Rattle.bus_medium.specs.Clocks.{Ticks, gap_behind}
+pub use Rattle.bus_medium.specs.Clocks.{put, AreTimed, ScheduledSoFar, StartsNext, due_behind, gap_from_behind, sent_behind}
+use Rattle.bus_medium.specs.Clocks.{HasTimers, gap_behind}
 use Rattle.bus_medium.specs.inside.Lazy.{IsLate}
 use Rattle.bus_medium.proofs.BusyLaws.{entry_is_busy}
 use Rattle.bus_medium.proofs.CableClocks.{ticks_other, ticks_own, ticks_start, ticks_not_due, ticks_due}
@@ -33,11 +33,11 @@ split_at : (l u : ℕ) → l ≤ u → l + (u - l) ≡ u
 split_at l u h = omega arith
 
 pub goes_here : (quiet sg : ℕ) (delay : Delays) (wake : Wakes) (G : ℕ → ℕ) (number : ℕ) (x : Entry) (k : ℕ) → k ≡ number
-    → goes_G quiet sg delay wake G number x k ≡ quiet + heard_end delay x k + sg
+    → gap_from_behind quiet sg delay wake G number x k ≡ quiet + heard_end delay x k + sg
 goes_here quiet sg delay wake G number x k e = rw (eq-eqb k number e) refl
 
 pub goes_other : (quiet sg : ℕ) (delay : Delays) (wake : Wakes) (G : ℕ → ℕ) (number : ℕ) (x : Entry) (k : ℕ) → k ≢ number
-    → goes_G quiet sg delay wake G number x k ≡ gap_behind quiet sg (wake k) (G k) (x.moment + delay x k) (heard_end delay x k)
+    → gap_from_behind quiet sg delay wake G number x k ≡ gap_behind quiet sg (wake k) (G k) (x.moment + delay x k) (heard_end delay x k)
 goes_other quiet sg delay wake G number x k e = rw (ne_eqb k number e) refl
 
 -- who is late is so up to each earlier moment
@@ -53,7 +53,7 @@ first_late quiet G D tg C h m u low (inr gap) = inl (omega arith)
 
 module _ (quiet sg : ℕ) (delay : Delays) (wake : Wakes) (stations : List Station) (are : AreTimed sg stations) (zeros : (x : Entry) → delay x x.terminal ≡ 0) where
   module _ (list : List Entry) (t last : ℕ) (E D G C : ℕ → ℕ) (a : Station) (x : Entry)
-      (so : Known quiet delay wake stations list t last E D G C) (goes : Goes quiet delay stations last E D G C a x) where
+      (so : ScheduledSoFar quiet delay wake stations list t last E D G C) (goes : StartsNext quiet delay stations last E D G C a x) where
     same : (b : Station) → In b stations → b.number ≡ a.number → b ≡ a
     same b i is = are.numbers b a i goes.there is
 
@@ -96,8 +96,8 @@ module _ (quiet sg : ℕ) (delay : Delays) (wake : Wakes) (stations : List Stati
         (λ s i apart d. silent s x.moment i (omega arith) (inr (apart, omega arith)) d)
         goes.mine (ap (slice_get a.hand) sent ∙ goes.message)
 
-    ticks_then : (b : Station) → In b stations → Ticks quiet delay wake b (list ++ x ∷ []) (heard_end delay x b.number) (goes_D quiet D a x b.number)
-        (goes_G quiet sg delay wake G a.number x b.number) (goes_C C a.number b.number)
+    ticks_then : (b : Station) → In b stations → HasTimers quiet delay wake b (list ++ x ∷ []) (heard_end delay x b.number) (due_behind quiet D a x b.number)
+        (gap_from_behind quiet sg delay wake G a.number x b.number) (sent_behind C a.number b.number)
     ticks_then b i =
         let ready : E b.number ≤ x.moment = goes.ready b i in
         let e : ℕ = heard_end delay x b.number in
@@ -107,29 +107,29 @@ module _ (quiet sg : ℕ) (delay : Delays) (wake : Wakes) (stations : List Stati
               let k = so.ticks a goes.there in
               let woken : a.timing.sg + wake a.number ≤ G a.number = k.woken in
               let terminal : G a.number + a.timing.tg ≤ quiet + x.moment = goes.terminal in
-              let own : Ticks quiet delay wake a (list ++ x ∷ []) (heard_end delay x a.number) (quiet + x.moment + a.timing.ti) (quiet + heard_end delay x a.number + a.timing.sg) (C a.number + 1) =
+              let own : HasTimers quiet delay wake a (list ++ x ∷ []) (heard_end delay x a.number) (quiet + x.moment + a.timing.ti) (quiet + heard_end delay x a.number + a.timing.sg) (C a.number + 1) =
               ticks_own quiet delay wake a (are.sound a goes.there) list x (E a.number) (D a.number) (G a.number) (C a.number) k (goes.ready a goes.there) goes.mine no_lag
               (omega arith) goes.some in
-              let gap : quiet + heard_end delay x a.number + a.timing.sg ≡ goes_G quiet sg delay wake G a.number x a.number =
+              let gap : quiet + heard_end delay x a.number + a.timing.sg ≡ gap_from_behind quiet sg delay wake G a.number x a.number =
               ap (λ g. quiet + heard_end delay x a.number + g) (are.same_sg a goes.there) ∙ sym (goes_here quiet sg delay wake G a.number x a.number refl) in
-              subst (λ (c : Station). Ticks quiet delay wake c (list ++ x ∷ []) (heard_end delay x c.number) (goes_D quiet D a x c.number)
-              (goes_G quiet sg delay wake G a.number x c.number) (goes_C C a.number c.number)) is
-              (subst (λ v. Ticks quiet delay wake a (list ++ x ∷ []) (heard_end delay x a.number) v (goes_G quiet sg delay wake G a.number x a.number) (goes_C C a.number a.number))
+              subst (λ (c : Station). HasTimers quiet delay wake c (list ++ x ∷ []) (heard_end delay x c.number) (due_behind quiet D a x c.number)
+              (gap_from_behind quiet sg delay wake G a.number x c.number) (sent_behind C a.number c.number)) is
+              (subst (λ v. HasTimers quiet delay wake a (list ++ x ∷ []) (heard_end delay x a.number) v (gap_from_behind quiet sg delay wake G a.number x a.number) (sent_behind C a.number a.number))
               (sym (put_here D a.number (quiet + x.moment + a.timing.ti) a.number refl))
-              (subst (λ v. Ticks quiet delay wake a (list ++ x ∷ []) (heard_end delay x a.number) (quiet + x.moment + a.timing.ti) v (goes_C C a.number a.number)) gap
-              (subst (λ v. Ticks quiet delay wake a (list ++ x ∷ []) (heard_end delay x a.number) (quiet + x.moment + a.timing.ti) (quiet + heard_end delay x a.number + a.timing.sg) v)
+              (subst (λ v. HasTimers quiet delay wake a (list ++ x ∷ []) (heard_end delay x a.number) (quiet + x.moment + a.timing.ti) v (sent_behind C a.number a.number)) gap
+              (subst (λ v. HasTimers quiet delay wake a (list ++ x ∷ []) (heard_end delay x a.number) (quiet + x.moment + a.timing.ti) (quiet + heard_end delay x a.number + a.timing.sg) v)
               (sym (put_here C a.number (C a.number + 1) a.number refl)) own)))
           | inr apart ↦
               let begin : ℕ = x.moment + delay x b.number in
-              let other : Ticks quiet delay wake b (list ++ x ∷ []) e (D b.number) (gap_behind quiet b.timing.sg (wake b.number) (G b.number) begin e) (C b.number) =
+              let other : HasTimers quiet delay wake b (list ++ x ∷ []) e (D b.number) (gap_behind quiet b.timing.sg (wake b.number) (G b.number) begin e) (C b.number) =
               ticks_other quiet delay wake b (are.sound b i) list x (E b.number) (D b.number) (G b.number) (C b.number) (so.ticks b i) (omega arith)
               (λ same. apart (sym same ∙ goes.mine)) goes.some in
-              let gap : gap_behind quiet b.timing.sg (wake b.number) (G b.number) begin e ≡ goes_G quiet sg delay wake G a.number x b.number =
+              let gap : gap_behind quiet b.timing.sg (wake b.number) (G b.number) begin e ≡ gap_from_behind quiet sg delay wake G a.number x b.number =
               ap (λ g. gap_behind quiet g (wake b.number) (G b.number) begin e) (are.same_sg b i) ∙ sym (goes_other quiet sg delay wake G a.number x b.number apart) in
-              subst (λ v. Ticks quiet delay wake b (list ++ x ∷ []) e v (goes_G quiet sg delay wake G a.number x b.number) (goes_C C a.number b.number))
+              subst (λ v. HasTimers quiet delay wake b (list ++ x ∷ []) e v (gap_from_behind quiet sg delay wake G a.number x b.number) (sent_behind C a.number b.number))
               (sym (put_other D a.number (quiet + x.moment + a.timing.ti) b.number apart))
-              (subst (λ v. Ticks quiet delay wake b (list ++ x ∷ []) e (D b.number) v (goes_C C a.number b.number)) gap
-              (subst (λ v. Ticks quiet delay wake b (list ++ x ∷ []) e (D b.number) (gap_behind quiet b.timing.sg (wake b.number) (G b.number) begin e) v)
+              (subst (λ v. HasTimers quiet delay wake b (list ++ x ∷ []) e (D b.number) v (sent_behind C a.number b.number)) gap
+              (subst (λ v. HasTimers quiet delay wake b (list ++ x ∷ []) e (D b.number) (gap_behind quiet b.timing.sg (wake b.number) (G b.number) begin e) v)
               (sym (put_other C a.number (C a.number + 1) b.number apart)) other))
         ]
 
@@ -162,8 +162,8 @@ module _ (quiet sg : ℕ) (delay : Delays) (wake : Wakes) (stations : List Stati
               ((due_unheard quiet delay wake list (x ∷ []) b u unheard).0 d)
         ]
 
-    pub known_step : Known quiet delay wake stations (list ++ x ∷ []) (x.moment + 1) (end_of x)
-        (heard_end delay x) (goes_D quiet D a x) (goes_G quiet sg delay wake G a.number x) (goes_C C a.number)
+    pub known_step : ScheduledSoFar quiet delay wake stations (list ++ x ∷ []) (x.moment + 1) (end_of x)
+        (heard_end delay x) (due_behind quiet D a x) (gap_from_behind quiet sg delay wake G a.number x) (sent_behind C a.number)
     known_step =
         let bit : 0 < bits x.message = bits_some x.message goes.some in
         record {
@@ -176,12 +176,12 @@ module _ (quiet sg : ℕ) (delay : Delays) (wake : Wakes) (stations : List Stati
 
   -- before anything is sent, for numbers that tell when each interval elapses first
   pub known_start : (D : ℕ → ℕ) → ((s : Station) → In s stations → s.timing.quiet + s.timing.due + wake s.number ≡ D s.number)
-      → Known quiet delay wake stations [] 0 0 (λ _. 0) D (λ k. sg + wake k) (λ _. 0)
+      → ScheduledSoFar quiet delay wake stations [] 0 0 (λ _. 0) D (λ k. sg + wake k) (λ _. 0)
   known_start D due = record {
     law = ruled_none (IsDueOnCable quiet delay wake) (cable_looks quiet delay wake) stations;
     ticks = λ s i.
-        subst (λ v. Ticks quiet delay wake s [] 0 v (sg + wake s.number) 0) (due s i)
-        (subst (λ g. Ticks quiet delay wake s [] 0 (s.timing.quiet + s.timing.due + wake s.number) (g + wake s.number) 0) (are.same_sg s i)
+        subst (λ v. HasTimers quiet delay wake s [] 0 v (sg + wake s.number) 0) (due s i)
+        (subst (λ g. HasTimers quiet delay wake s [] 0 (s.timing.quiet + s.timing.due + wake s.number) (g + wake s.number) 0) (are.same_sg s i)
         (ticks_start quiet delay wake s (are.sound s i)));
     rests = λ s u i low high d. absurd (omega arith);
     decided = omega arith;
@@ -189,7 +189,7 @@ module _ (quiet sg : ℕ) (delay : Delays) (wake : Wakes) (stations : List Stati
   }
 
   -- it is lawful up to its end
-  pub known_lawful : (list : List Entry) (t last : ℕ) (E D G C : ℕ → ℕ) → Known quiet delay wake stations list t last E D G C
+  pub known_lawful : (list : List Entry) (t last : ℕ) (E D G C : ℕ → ℕ) → ScheduledSoFar quiet delay wake stations list t last E D G C
       → IsLawfulOnCableTo quiet delay wake stations last 0 list
   known_lawful list t last E D G C so =
       subst (λ v. IsLawfulOnCableTo quiet delay wake stations v 0 list) (split_at t last so.decided)

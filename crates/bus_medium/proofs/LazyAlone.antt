@@ -11,7 +11,7 @@ use Rattle.bus_strings.proofs.ListLaws.{some_at}
 use Rattle.bus_medium.specs.Buses.{Seat, number_of, station_of}
 use Rattle.bus_medium.specs.Lawful.{IsLawfulTo}
 use Rattle.bus_medium.specs.Orders.{IsByNumber}
-use Rattle.bus_medium.specs.declared.clock.Watch.{Watch}
+use Rattle.bus_medium.specs.declared.timers.Timers.{Timers}
 use Rattle.bus_medium.specs.inside.Following.{AllFollow, Idle, Started}
 use Rattle.bus_medium.specs.inside.Lazy.{Clock, clock_of, clocks_of, lazy, lazy_seat, lazy_seats, IsAlone}
 use Rattle.bus_medium.proofs.Seats.{get_set_other}
@@ -71,5 +71,5 @@ others_idle core q t seats clocks p long alone = λ r z apart at.
     let w = lazy_from (q + t) seats clocks r z long at in
     subst (λ v. Idle (lazy core q (q + t)) v v) w.is (begin_none core q t w.seat w.clock (alone.others r w.clock apart w.clock_at))
 
-pub watch_set : {C : Type 0} (now e : ℕ) (xs : List (Seat C)) (ws : List Watch) (p : ℕ) (y : Seat C) (v : Watch) → lazy_seats now (set xs p y) (clocks_of e (set ws p v)) ≡ set (lazy_seats now xs (clocks_of e ws)) p (lazy_seat now y (clock_of e v))
-watch_set now e xs ws p y v = ap (lazy_seats now (set xs p y)) (map-set (clock_of e) ws p v) ∙ lazy_set now xs (clocks_of e ws) p y (clock_of e v)
+pub timers_set : {C : Type 0} (now e : ℕ) (xs : List (Seat C)) (ws : List Timers) (p : ℕ) (y : Seat C) (v : Timers) → lazy_seats now (set xs p y) (clocks_of e (set ws p v)) ≡ set (lazy_seats now xs (clocks_of e ws)) p (lazy_seat now y (clock_of e v))
+timers_set now e xs ws p y v = ap (lazy_seats now (set xs p y)) (map-set (clock_of e) ws p v) ∙ lazy_set now xs (clocks_of e ws) p y (clock_of e v)

@@ -33,7 +33,7 @@ pub mod CableSteps
 pub mod LazySeats
 pub mod LazyLaws
 pub mod LazyStarts
-pub mod Watches
+pub mod TimersLemmas
 pub mod LazyLoops
 pub mod LazySteps
 pub mod LazyAlone

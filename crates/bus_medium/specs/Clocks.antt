@@ -1,9 +1,9 @@
 -- A sender's timers as four numbers, from the moment on at which it has heard all, whenever it was powered up: in the middle of a message
 -- too. They tell by arithmetic who is due next, and so how a schedule grows on a cable. Places are counted as in the past of the bus.
---   E   the moment at which it has heard all
---   D   the place at which its transmit interval elapses
---   G   the place from which its terminal gap counts, or will
---   C   how many messages it has sent
+--   heard_all   the moment at which it has heard all
+--   due         the place at which its transmit interval elapses
+--   gap_from    the place from which its terminal gap counts, or will
+--   sent        how many messages it has sent
 use Rattle.std.specs.Prelude.{◌≡◌, ◌≢◌, ℕ, ◌+◌, ◌<◌, ◌≤◌, ◌⊎◌, ◌↔◌, ◌==◌, nat_le, max, List, [], ◌∷◌, ◌++◌, length, slice_get, Option, Some}
 use Rattle.std.specs.Prelude.{if◌then◌else◌}
 use Rattle.bus_timers.specs.Timings.{IsSound, due_place}
@@ -17,26 +17,29 @@ use Rattle.bus_medium.specs.Delays.{Delays, heard, heard_end}
 use Rattle.bus_medium.specs.Wakes.{Wakes, woken_past, woken_place}
 use Rattle.bus_medium.specs.CableLawful.{IsDueOnCable, IsLawfulOnCableTo}
 
--- The terminal gap of a terminal that was powered up at place w counts from place G, at moment v.
-pub record GapAt (sg q w : ℕ) (l : List Entry) (v : ℕ) (last : Option ℕ) (G : ℕ) : Type 0 where
+-- The terminal gap of a terminal that was powered up at a place counts from this place, at a moment.
+pub record GapAt (sg quiet wake : ℕ) (list : List Entry) (moment : ℕ) (last : Option ℕ) (gap_from : ℕ) : Type 0 where
   pub g : ℕ
-  pub is : g + w ≡ G
-  pub from : GapFrom sg (woken_past q w l v) last g
+  pub is : g + wake ≡ gap_from
+  pub from : GapFrom sg (woken_past quiet wake list moment) last g
 
 -- These are the numbers of a sender.
-pub record Ticks (quiet : ℕ) (delay : Delays) (wake : Wakes) (s : Station) (list : List Entry) (E D G C : ℕ) : Type 0 where
-  pub ended : (x : Entry) → In x list → end_of x + delay x s.number ≤ E
-  pub begun : (x : Entry) → In x list → x.terminal ≡ s.number → x.moment < E
+pub record HasTimers (quiet : ℕ) (delay : Delays) (wake : Wakes) (s : Station) (list : List Entry) (heard_all due gap_from sent : ℕ)
+    : Type 0 where
+  pub ended : (x : Entry) → In x list → end_of x + delay x s.number ≤ heard_all
+  pub begun : (x : Entry) → In x list → x.terminal ≡ s.number → x.moment < heard_all
   pub owns : (x : Entry) → In x list → x.terminal ≡ s.number → wake s.number ≤ quiet + x.moment
-  pub woken : s.timing.sg + wake s.number ≤ G
-  pub gap : (m : ℕ) → E ≤ m → wake s.number ≤ quiet + m
-      → GapAt s.timing.sg quiet (wake s.number) (heard delay s.number list) m (woken_place quiet (wake s.number) (own list s.number m)) G
-  pub interval : (m : ℕ) → E ≤ m → due_place s.timing (woken_place quiet (wake s.number) (own list s.number m)) + wake s.number ≡ D
-  pub counts : (m : ℕ) → E ≤ m → length (own list s.number m) ≡ C
+  pub woken : s.timing.sg + wake s.number ≤ gap_from
+  pub gap : (m : ℕ) → heard_all ≤ m → wake s.number ≤ quiet + m
+      → GapAt s.timing.sg quiet (wake s.number) (heard delay s.number list) m (woken_place quiet (wake s.number) (own list s.number m))
+      gap_from
+  pub interval : (m : ℕ) → heard_all ≤ m
+      → due_place s.timing (woken_place quiet (wake s.number) (own list s.number m)) + wake s.number ≡ due
+  pub counts : (m : ℕ) → heard_all ≤ m → length (own list s.number m) ≡ sent
 
 -- Where its terminal gap counts from behind a message of another that it hears from moment m to moment e.
 abbrev pub gap_behind : ℕ → ℕ → ℕ → ℕ → ℕ → ℕ → ℕ
-gap_behind quiet sg wake G m e = if nat_le G (quiet + m) then quiet + e else max (quiet + e + sg) (sg + wake)
+gap_behind quiet sg wake gap_from m e = if nat_le gap_from (quiet + m) then quiet + e else max (quiet + e + sg) (sg + wake)
 
 -- The senders have numbers of their own and sound timings, all with the same synchronization gap.
 pub record AreTimed (sg : ℕ) (stations : List Station) : Type 0 where
@@ -46,32 +49,34 @@ pub record AreTimed (sg : ℕ) (stations : List Station) : Type 0 where
 
 -- A schedule so far: all has been decided up to moment t, and nobody is due from there on before it has heard all. It ends at `last` at the
 -- latest.
-pub record Known (quiet : ℕ) (delay : Delays) (wake : Wakes) (stations : List Station) (list : List Entry) (t last : ℕ) (E D G C : ℕ → ℕ)
-    : Type 0 where
+pub record ScheduledSoFar (quiet : ℕ) (delay : Delays) (wake : Wakes) (stations : List Station) (list : List Entry) (t last : ℕ)
+    (heard_all due gap_from sent : ℕ → ℕ) : Type 0 where
   pub law : IsLawfulOnCableTo quiet delay wake stations t 0 list
-  pub ticks : (s : Station) → In s stations → Ticks quiet delay wake s list (E s.number) (D s.number) (G s.number) (C s.number)
-  pub rests : (s : Station) (u : ℕ) → In s stations → t ≤ u → u < E s.number → IsDueOnCable quiet delay wake list s u → ⊥
+  pub ticks : (s : Station) → In s stations
+      → HasTimers quiet delay wake s list (heard_all s.number) (due s.number) (gap_from s.number) (sent s.number)
+  pub rests : (s : Station) (u : ℕ) → In s stations → t ≤ u → u < heard_all s.number → IsDueOnCable quiet delay wake list s u → ⊥
   pub decided : t ≤ last
-  pub heard : (s : Station) → In s stations → last ≤ E s.number
+  pub heard : (s : Station) → In s stations → last ≤ heard_all s.number
 
 -- What the numbers must be where a sender starts:
 --   interval, terminal   its timers allow it
 --   first                they didn't before
 --   slow                 those of no other sender do before it hears that start.
-pub record Goes (quiet : ℕ) (delay : Delays) (stations : List Station) (last : ℕ) (E D G C : ℕ → ℕ) (a : Station) (x : Entry) : Type 0 where
+pub record StartsNext (quiet : ℕ) (delay : Delays) (stations : List Station) (last : ℕ) (heard_all due gap_from sent : ℕ → ℕ)
+    (a : Station) (x : Entry) : Type 0 where
   pub there : In a stations
   pub mine : x.terminal ≡ a.number
   pub some : 0 < length x.message
-  pub message : slice_get a.hand (C a.number) ≡ Some x.message
-  pub left : C a.number < length a.hand
+  pub message : slice_get a.hand (sent a.number) ≡ Some x.message
+  pub left : sent a.number < length a.hand
   pub behind : last ≤ x.moment
-  pub ready : (s : Station) → In s stations → E s.number ≤ x.moment
-  pub interval : D a.number ≤ quiet + x.moment
-  pub terminal : G a.number + a.timing.tg ≤ quiet + x.moment
-  pub first : (quiet + x.moment ≤ D a.number) ⊎ (quiet + x.moment ≤ G a.number + a.timing.tg)
+  pub ready : (s : Station) → In s stations → heard_all s.number ≤ x.moment
+  pub interval : due a.number ≤ quiet + x.moment
+  pub terminal : gap_from a.number + a.timing.tg ≤ quiet + x.moment
+  pub first : (quiet + x.moment ≤ due a.number) ⊎ (quiet + x.moment ≤ gap_from a.number + a.timing.tg)
   pub slow : (s : Station) → In s stations → s.number ≢ a.number
-      → (quiet + (x.moment + delay x s.number) < G s.number + s.timing.tg)
-      ⊎ ((quiet + (x.moment + delay x s.number) < D s.number) ⊎ (length s.hand ≤ C s.number))
+      → (quiet + (x.moment + delay x s.number) < gap_from s.number + s.timing.tg)
+      ⊎ ((quiet + (x.moment + delay x s.number) < due s.number) ⊎ (length s.hand ≤ sent s.number))
 
 -- The numbers with another one for terminal n.
 abbrev pub put : (ℕ → ℕ) → ℕ → ℕ → ℕ → ℕ
@@ -79,46 +84,48 @@ put f n v i = if i == n then v else f i
 
 -- ---- the numbers behind that start
 -- Where the interval of its sender elapses.
-abbrev pub goes_D : ℕ → (ℕ → ℕ) → Station → Entry → ℕ → ℕ
-goes_D quiet D a x = put D a.number (quiet + x.moment + a.timing.ti)
+abbrev pub due_behind : ℕ → (ℕ → ℕ) → Station → Entry → ℕ → ℕ
+due_behind quiet due a x = put due a.number (quiet + x.moment + a.timing.ti)
 
 -- Where each terminal's gap counts from.
-abbrev pub goes_G : ℕ → ℕ → Delays → Wakes → (ℕ → ℕ) → ℕ → Entry → ℕ → ℕ
-goes_G quiet sg delay wake G number x k =
+abbrev pub gap_from_behind : ℕ → ℕ → Delays → Wakes → (ℕ → ℕ) → ℕ → Entry → ℕ → ℕ
+gap_from_behind quiet sg delay wake gap_from number x k =
     if k == number then quiet + heard_end delay x k + sg
-    else gap_behind quiet sg (wake k) (G k) (x.moment + delay x k) (heard_end delay x k)
+    else gap_behind quiet sg (wake k) (gap_from k) (x.moment + delay x k) (heard_end delay x k)
 
 -- How many messages each has sent.
-abbrev pub goes_C : (ℕ → ℕ) → ℕ → ℕ → ℕ
-goes_C C number = put C number (C number + 1)
+abbrev pub sent_behind : (ℕ → ℕ) → ℕ → ℕ → ℕ
+sent_behind sent number = put sent number (sent number + 1)
 
 -- Before anything is sent the interval of each sender elapses at its own time behind its wake, and its terminal gap counts from one
 -- synchronization gap behind its power-up.
 abbrev pub ClocksStart : Type 0
 ClocksStart =
     (quiet sg : ℕ) (delay : Delays) (wake : Wakes) (stations : List Station) → AreTimed sg stations → ((x : Entry) → delay x x.terminal ≡ 0)
-    → (D : ℕ → ℕ) → ((s : Station) → In s stations → s.timing.quiet + s.timing.due + wake s.number ≡ D s.number)
-    → Known quiet delay wake stations [] 0 0 (λ _. 0) D (λ number. sg + wake number) (λ _. 0)
+    → (due : ℕ → ℕ) → ((s : Station) → In s stations → s.timing.quiet + s.timing.due + wake s.number ≡ due s.number)
+    → ScheduledSoFar quiet delay wake stations [] 0 0 (λ _. 0) due (λ number. sg + wake number) (λ _. 0)
 
 -- Three comparisons say who is due once it has heard all.
 abbrev pub ClockTells : Type 0
 ClockTells =
-    (quiet : ℕ) (delay : Delays) (wake : Wakes) (s : Station) (list : List Entry) (E D G C t : ℕ) → IsSound s.timing
-    → Ticks quiet delay wake s list E D G C → E ≤ t
-    → ((D ≤ quiet + t) × (G + s.timing.tg ≤ quiet + t) × (C < length s.hand)) ↔ IsDueOnCable quiet delay wake list s t
+    (quiet : ℕ) (delay : Delays) (wake : Wakes) (s : Station) (list : List Entry) (heard_all due gap_from sent t : ℕ) → IsSound s.timing
+    → HasTimers quiet delay wake s list heard_all due gap_from sent → heard_all ≤ t
+    → ((due ≤ quiet + t) × (gap_from + s.timing.tg ≤ quiet + t) × (sent < length s.hand)) ↔ IsDueOnCable quiet delay wake list s t
 
 -- One transmission more, which begins when all have been heard.
 abbrev pub ClocksStep : Type 0
 ClocksStep =
     (quiet sg : ℕ) (delay : Delays) (wake : Wakes) (stations : List Station) → AreTimed sg stations → ((x : Entry) → delay x x.terminal ≡ 0)
-    → (list : List Entry) (t last : ℕ) (E D G C : ℕ → ℕ) (a : Station) (x : Entry) → Known quiet delay wake stations list t last E D G C
-    → Goes quiet delay stations last E D G C a x
-    → Known quiet delay wake stations (list ++ x ∷ []) (x.moment + 1) (end_of x) (heard_end delay x) (goes_D quiet D a x)
-    (goes_G quiet sg delay wake G a.number x) (goes_C C a.number)
+    → (list : List Entry) (t last : ℕ) (heard_all due gap_from sent : ℕ → ℕ) (a : Station) (x : Entry)
+    → ScheduledSoFar quiet delay wake stations list t last heard_all due gap_from sent
+    → StartsNext quiet delay stations last heard_all due gap_from sent a x
+    → ScheduledSoFar quiet delay wake stations (list ++ x ∷ []) (x.moment + 1) (end_of x) (heard_end delay x) (due_behind quiet due a x)
+    (gap_from_behind quiet sg delay wake gap_from a.number x) (sent_behind sent a.number)
 
 -- The schedule is lawful up to its end.
 abbrev pub ClocksAreLawful : Type 0
 ClocksAreLawful =
     (quiet sg : ℕ) (delay : Delays) (wake : Wakes) (stations : List Station) → AreTimed sg stations → ((x : Entry) → delay x x.terminal ≡ 0)
-    → (list : List Entry) (t last : ℕ) (E D G C : ℕ → ℕ) → Known quiet delay wake stations list t last E D G C
+    → (list : List Entry) (t last : ℕ) (heard_all due gap_from sent : ℕ → ℕ)
+    → ScheduledSoFar quiet delay wake stations list t last heard_all due gap_from sent
     → IsLawfulOnCableTo quiet delay wake stations last 0 list

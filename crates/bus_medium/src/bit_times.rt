@@ -8,10 +8,10 @@ ghost use Rattle.bus_medium.specs.Buses.{station_of, number_of, StandsAt, observ
 ghost use Rattle.bus_medium.specs.inside.Following.{AllHaveRoom};
 ghost use Rattle.bus_medium.specs.Jumps.{Each};
 ghost use Rattle.bus_medium.specs.inside.Lasting.{PassedMany};
-ghost use Rattle.bus_medium.specs.Orders.{IsRoster};
+ghost use Rattle.bus_medium.specs.Orders.{IsSendOrder};
 ghost use Rattle.bus_medium.specs.inside.Runs.{RunsTo, Reached, seat_sounds};
 
-use crate::deciding::{Roster, decide_all};
+use crate::deciding::{SendOrder, decide_all};
 use crate::seat::Seat;
 use bus_strings::Transmission;
 use bus_timers::Core;
@@ -47,18 +47,18 @@ fn pass_all<C: Core>(seats: &mut [Seat<C>], carrier: bool)
 /// One bit time: every sender decides at the moment, and then each is passed the carrier that any of them has.
 fn bit_time<C: Core>(
     alloc: Global,
-    roster: &Roster,
+    send_order: &SendOrder,
     moment: u64,
     seats: &mut [Seat<C>],
     list: &mut Vec<Transmission>,
 ) -> Result<(), AllocError>
     requires moment { moment < horizon_limit }
-    requires roster { IsRoster (map number_of seats.old) roster.now.places.items }
-    requires at { RunsTo ⟦<C as Core>⟧ roster.now.quiet seats.old list.old.items moment }
+    requires send_order { IsSendOrder (map number_of seats.old) send_order.now.places.items }
+    requires at { RunsTo ⟦<C as Core>⟧ send_order.now.quiet seats.old list.old.items moment }
     ensures numbers { map number_of seats.new ≡ map number_of seats.old }
-    ensures reached { OnOk result (Reached ⟦<C as Core>⟧ roster.now.quiet (moment + 1) seats.old seats.new list.new.items) }
+    ensures reached { OnOk result (Reached ⟦<C as Core>⟧ send_order.now.quiet (moment + 1) seats.old seats.new list.new.items) }
 {
-    decide_all(alloc, roster, moment, seats, list)?;
+    decide_all(alloc, send_order, moment, seats, list)?;
     let carrier = any_on(seats);
     pass_all(seats, carrier);
     Ok(())
@@ -67,24 +67,24 @@ fn bit_time<C: Core>(
 /// The lawful list up to the horizon, bit time for bit time.
 pub fn observe_all<C: Core>(
     alloc: Global,
-    roster: &Roster,
+    send_order: &SendOrder,
     seats: &mut [Seat<C>],
     horizon: u64,
 ) -> Result<Vec<Transmission>, AllocError>
     requires horizon { horizon ≤ observe_limit }
-    requires roster { IsRoster (map number_of seats.old) roster.now.places.items }
-    requires stands { StandsAt ⟦<C as Core>⟧ (record { quiet = roster.now.quiet; seats = seats.old }) [] 0 }
+    requires send_order { IsSendOrder (map number_of seats.old) send_order.now.places.items }
+    requires stands { StandsAt ⟦<C as Core>⟧ (record { quiet = send_order.now.quiet; seats = seats.old }) [] 0 }
     ensures numbers { map number_of seats.new ≡ map number_of seats.old }
-    ensures lawful { IfOk result (λ list. IsLawful roster.now.quiet (map station_of seats.old) horizon list.items) }
-    ensures only { IfOk result (λ list. (other : List Entry) → IsLawful roster.now.quiet (map station_of seats.old) horizon other
+    ensures lawful { IfOk result (λ list. IsLawful send_order.now.quiet (map station_of seats.old) horizon list.items) }
+    ensures only { IfOk result (λ list. (other : List Entry) → IsLawful send_order.now.quiet (map station_of seats.old) horizon other
         → other ≡ list.items) }
-    ensures stands { IfOk result (λ list. StandsAt ⟦<C as Core>⟧ (record { quiet = roster.now.quiet; seats = seats.new })
+    ensures stands { IfOk result (λ list. StandsAt ⟦<C as Core>⟧ (record { quiet = send_order.now.quiet; seats = seats.new })
         list.items horizon) }
     ensures keeps { OnOk result (map station_of seats.new ≡ map station_of seats.old) }
 {
     let mut list = Vec::new(alloc);
     for moment in 0..horizon {
-        bit_time(alloc, roster, moment, seats, &mut list)?;
+        bit_time(alloc, send_order, moment, seats, &mut list)?;
     }
     Ok(list)
 }

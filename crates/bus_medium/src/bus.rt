@@ -12,7 +12,7 @@ ghost use Rattle.bus_medium.specs.Edges.{strings_sent};
 ghost use Rattle.bus_medium.specs.Jumps.{Moved};
 
 use crate::bit_times::observe_all;
-use crate::deciding::Roster;
+use crate::deciding::SendOrder;
 use crate::seat::Seat;
 use crate::seating::{by_number, numbers, seat_all};
 use crate::timings::quiet;
@@ -30,20 +30,20 @@ pub const OBSERVE_LIMIT: u64 = 20_000_000;
 #[derive(Drop)]
 pub struct Bus<C: Core> {
     alloc: Global,
-    roster: Roster,
+    send_order: SendOrder,
     seats: Vec<Seat<C>>,
 }
 
 impl<C: Core> Model for Bus<C> {
     ghost use Rattle.std.specs.Prelude.{map};
     ghost use Rattle.bus_medium.specs.Buses as buses;
-    ghost use Rattle.bus_medium.specs.Orders.{IsRoster};
+    ghost use Rattle.bus_medium.specs.Orders.{IsSendOrder};
 
     ghost Value = { buses.Bus C };
 
-    ghost view = { λ b. record { quiet = b.roster.quiet; seats = b.seats.items } };
+    ghost view = { λ b. record { quiet = b.send_order.quiet; seats = b.seats.items } };
 
-    ghost invariant = { λ b. IsRoster (map buses.number_of b.seats.items) b.roster.places.items };
+    ghost invariant = { λ b. IsSendOrder (map buses.number_of b.seats.items) b.send_order.places.items };
 }
 
 impl<C: Core> Bus<C> {
@@ -60,7 +60,7 @@ impl<C: Core> Bus<C> {
         let seats = seat_all(alloc, table, hands)?;
         Ok(Bus {
             alloc,
-            roster: Roster {
+            send_order: SendOrder {
                 quiet: quiet(table),
                 places,
             },
@@ -84,7 +84,7 @@ impl<C: Core> Bus<C> {
         ensures quiet { OnOk result (self.new.quiet ≡ self.old.quiet) }
         ensures stations { OnOk result (stations self.new ≡ stations self.old) }
     {
-        observe_all(self.alloc, &self.roster, &mut self.seats, horizon)
+        observe_all(self.alloc, &self.send_order, &mut self.seats, horizon)
     }
 
     /// How many senders the bus has.
@@ -114,7 +114,7 @@ impl<C: JumpCore> Bus<C> {
         ensures stations { OnOk result (stations self.new ≡ stations self.old) }
         ensures moves { IfOk result (λ list. Moved ⟦<C as Core>⟧ (2 * strings_sent list.items + 1) self.old.seats self.new.seats) }
     {
-        jump_all(self.alloc, &self.roster, &mut self.seats, horizon)
+        jump_all(self.alloc, &self.send_order, &mut self.seats, horizon)
     }
 
     /// How often the core of sender `k` of the table, from 0, was moved since it was settled.

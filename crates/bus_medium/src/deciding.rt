@@ -3,7 +3,7 @@ ghost use Rattle.std.specs.Prelude.{◌≡◌, ◌<◌, ◌≤◌, map, Option, 
 ghost use Rattle.bus_strings.specs.Limits.{horizon_limit, most_terminal};
 ghost use Rattle.bus_medium.specs.Buses.{number_of};
 ghost use Rattle.bus_medium.specs.inside.Following.{Idle, Started};
-ghost use Rattle.bus_medium.specs.Orders.{IsRoster};
+ghost use Rattle.bus_medium.specs.Orders.{IsSendOrder};
 ghost use Rattle.bus_medium.specs.inside.Runs.{RunsTo, Decided};
 
 use crate::note::note;
@@ -12,9 +12,9 @@ use bus_strings::{Transmission, copy_message};
 use bus_timers::Core;
 use std::alloc::{AllocError, Global};
 
-/// Who decides when, and how long the bus was quiet before.
+/// In which order the senders decide, and how long the bus was quiet before.
 #[derive(Drop)]
-pub struct Roster {
+pub struct SendOrder {
     /// The quiet before the settled start, in bit times.
     pub quiet: u32,
     /// Where the senders stand in the table, by rising number.
@@ -48,18 +48,18 @@ pub fn decide_one<C: Core>(
 /// Every sender decides at the moment, by rising number, and what they begin is added to the list.
 pub fn decide_all<C: Core>(
     alloc: Global,
-    roster: &Roster,
+    send_order: &SendOrder,
     moment: u64,
     seats: &mut [Seat<C>],
     list: &mut Vec<Transmission>,
 ) -> Result<(), AllocError>
     requires moment { moment < horizon_limit }
-    requires roster { IsRoster (map number_of seats.old) roster.now.places.items }
-    requires at { RunsTo ⟦<C as Core>⟧ roster.now.quiet seats.old list.old.items moment }
+    requires send_order { IsSendOrder (map number_of seats.old) send_order.now.places.items }
+    requires at { RunsTo ⟦<C as Core>⟧ send_order.now.quiet seats.old list.old.items moment }
     ensures numbers { map number_of seats.new ≡ map number_of seats.old }
-    ensures decided { OnOk result (Decided ⟦<C as Core>⟧ roster.now.quiet moment seats.old seats.new list.old.items list.new.items) }
+    ensures decided { OnOk result (Decided ⟦<C as Core>⟧ send_order.now.quiet moment seats.old seats.new list.old.items list.new.items) }
 {
-    for place in &roster.places {
+    for place in &send_order.places {
         let begun = decide_one(alloc, moment, &mut seats[*place])?;
         note(list, begun)?;
     }

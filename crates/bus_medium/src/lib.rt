@@ -28,7 +28,6 @@
 
 mod bit_times;
 mod bus;
-mod clock;
 mod deciding;
 mod ending;
 mod first;
@@ -40,6 +39,7 @@ mod seat;
 mod seating;
 mod starting;
 mod terminal;
+mod timers;
 mod timings;
 mod turns;
 

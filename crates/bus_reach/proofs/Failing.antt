@@ -18,7 +18,7 @@ use Rattle.bus_medium.specs.CableLawful.{IsDueOnCable}
 use Rattle.bus_reach.specs.Schedule.{cable_turns, cable_heard, cable_origin, cable_rounds}
 use Rattle.bus_medium.specs.Clocks.{gap_behind}
 use Rattle.bus_medium.proofs.CableClocks.{gap_elapsed, gap_waiting, ticks_other, ticks_own, ticks_not_due, ticks_due}
-use Rattle.bus_reach.proofs.Knowing.{Ticks, sender_start}
+use Rattle.bus_reach.proofs.Knowing.{HasTimers, sender_start}
 use Rattle.bus_schedule.proofs.Growing.{Setting, has_left, sendable}
 use Rattle.bus_schedule.proofs.Greatest.{ends_within, max_within}
 use Rattle.bus_schedule.proofs.HandLemmas.{Sendable, station, stations}
@@ -36,7 +36,7 @@ module _ (table : Table) (hands : ℕ → List Message) (n : ℕ) (setting : Set
   record Counts (c : Sender) (list : List Entry) (from : ℕ) : Type 0 where
     E : ℕ
     ended : E ≤ from
-    ticks : Ticks table hands delay wake c list E (table.sg + wake c.number) (table.sg + from) 0
+    ticks : HasTimers table hands delay wake c list E (table.sg + wake c.number) (table.sg + from) 0
 
   -- and where it has spoken: one synchronization gap later
   record Waits (c : Sender) (list : List Entry) (from due_at : ℕ) : Type 0 where
@@ -44,7 +44,7 @@ module _ (table : Table) (hands : ℕ → List Message) (n : ℕ) (setting : Set
     ended : E ≤ from
     G : ℕ
     near : G ≤ table.sg + from + table.sg
-    ticks : Ticks table hands delay wake c list E (table.sg + due_at) G 1
+    ticks : HasTimers table hands delay wake c list E (table.sg + due_at) G 1
 
   -- turns of others that count from the same moment as this one, and that it and they hear at once
   pub record Level (c : Sender) (order : List Sender) (from : ℕ → ℕ) : Type 0 where
@@ -80,7 +80,7 @@ module _ (table : Table) (hands : ℕ → List Message) (n : ℕ) (setting : Set
       let next : Counts c (list ++ sends hands 0 a (from a.number + a.tg) ∷ []) (heard_end delay (sends hands 0 a (from a.number + a.tg)) c.number) = record {
         E = heard_end delay (sends hands 0 a (from a.number + a.tg)) c.number;
         ended = omega arith;
-        ticks = subst (λ g. Ticks table hands delay wake c (list ++ sends hands 0 a (from a.number + a.tg) ∷ []) (heard_end delay (sends hands 0 a (from a.number + a.tg)) c.number) (table.sg + wake c.number) g 0) moved
+        ticks = subst (λ g. HasTimers table hands delay wake c (list ++ sends hands 0 a (from a.number + a.tg) ∷ []) (heard_end delay (sends hands 0 a (from a.number + a.tg)) c.number) (table.sg + wake c.number) g 0) moved
             (ticks_other table.sg delay wake (station table hands c) (setting.dealt.sound c c_in) list (sends hands 0 a (from a.number + a.tg)) k.E (table.sg + wake c.number) (table.sg + from c.number) 0 k.ticks (omega arith)
             (level.apart a (inl refl)) message.some);
       } in
@@ -230,7 +230,7 @@ module _ (table : Table) (hands : ℕ → List Message) (n : ℕ) (setting : Set
         ended = omega arith;
         G = table.sg + heard_end delay (sends hands 0 f (wake f.number + f.tg)) f.number + table.sg;
         near = omega arith;
-        ticks = subst (λ d. Ticks table hands delay wake f ([] ++ x ∷ []) (heard_end delay x f.number) d (table.sg + heard_end delay x f.number + table.sg) 1)
+        ticks = subst (λ d. HasTimers table hands delay wake f ([] ++ x ∷ []) (heard_end delay x f.number) d (table.sg + heard_end delay x f.number + table.sg) 1)
             (let e : table.sg + (wake f.number + f.tg) + table.ti ≡ table.sg + (wake f.number + f.tg + table.ti) = omega arith in e)
             (ticks_own table.sg delay wake (station table hands f) (setting.dealt.sound f f_in) [] x 0 (table.sg + wake f.number) (table.sg + wake f.number) 0 (sender_start table hands n setting delay wake f f_in mode)
             (omega arith) refl (zeros x) (omega arith) message.some);
@@ -291,8 +291,8 @@ module _ (table : Table) (hands : ℕ → List Message) (n : ℕ) (setting : Set
       let all : List Entry = (([] ++ x ∷ []) ++ cable_turns delay hands 0 mid H) ++ y ∷ [] in
       let moved : gap_behind table.sg table.sg (wake f.number) w.G (heard_behind delay hands wake f mid l.number + l.tg + delay (sends hands 0 l (heard_behind delay hands wake f mid l.number + l.tg)) f.number) E ≡ table.sg + E =
       gap_elapsed table.sg table.sg (wake f.number) w.G (heard_behind delay hands wake f mid l.number + l.tg + delay (sends hands 0 l (heard_behind delay hands wake f mid l.number + l.tg)) f.number) E (omega arith) in
-      let ticks : Ticks table hands delay wake f all E (table.sg + (wake f.number + f.tg + table.ti)) (table.sg + E) 1 =
-      subst (λ g. Ticks table hands delay wake f all E (table.sg + (wake f.number + f.tg + table.ti)) g 1) moved
+      let ticks : HasTimers table hands delay wake f all E (table.sg + (wake f.number + f.tg + table.ti)) (table.sg + E) 1 =
+      subst (λ g. HasTimers table hands delay wake f all E (table.sg + (wake f.number + f.tg + table.ti)) g 1) moved
       (ticks_other table.sg delay wake (station table hands f) (setting.dealt.sound f f_in) (([] ++ x ∷ []) ++ cable_turns delay hands 0 mid H) y w.E (table.sg + (wake f.number + f.tg + table.ti)) w.G 1 w.ticks (omega arith) apart message.some) in
       let left : 1 < length (hands f.number) = has_left table hands n setting f 1 f_in more in
       let due : IsDueOnCable table.sg delay wake all (station table hands f) m =

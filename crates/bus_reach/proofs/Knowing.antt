@@ -25,16 +25,16 @@ use Rattle.bus_schedule.proofs.Greatest.{end_push}
 use Rattle.bus_schedule.proofs.HandLemmas.{Sendable, station, stations, quiet_is}
 
 -- the numbers of a sender's timers
-abbrev pub Ticks : Table → (ℕ → List Message) → Delays → Wakes → Sender → List Entry → ℕ → ℕ → ℕ → ℕ → Type 0
-Ticks table hands delay wake b list E D G C = numbers.Ticks table.sg delay wake (station table hands b) list E D G C
+abbrev pub HasTimers : Table → (ℕ → List Message) → Delays → Wakes → Sender → List Entry → ℕ → ℕ → ℕ → ℕ → Type 0
+HasTimers table hands delay wake b list E D G C = numbers.HasTimers table.sg delay wake (station table hands b) list E D G C
 
 -- all has been decided up to moment t, and nobody is due from there on before it has heard all. The list ends at `last`
-pub record Known (table : Table) (hands : ℕ → List Message) (delay : Delays) (wake : Wakes) (list : List Entry) (t last : ℕ) (E D G C : ℕ → ℕ) : Type 0 where
-  pub base : steps.Known table.sg delay wake (stations table hands) list t last E D G C
+pub record ScheduledSoFar (table : Table) (hands : ℕ → List Message) (delay : Delays) (wake : Wakes) (list : List Entry) (t last : ℕ) (E D G C : ℕ → ℕ) : Type 0 where
+  pub base : steps.ScheduledSoFar table.sg delay wake (stations table hands) list t last E D G C
   pub ends : greatest_end list ≡ last
 
 -- what the numbers must be where a sender starts
-pub record Goes (table : Table) (hands : ℕ → List Message) (delay : Delays) (n last : ℕ) (E D G C : ℕ → ℕ) (a : Sender) (round start : ℕ) : Type 0 where
+pub record StartsNext (table : Table) (hands : ℕ → List Message) (delay : Delays) (n last : ℕ) (E D G C : ℕ → ℕ) (a : Sender) (round start : ℕ) : Type 0 where
   pub behind : last ≤ start
   pub ready : (b : Sender) → In b table.senders → E b.number ≤ start
   pub interval : D a.number ≤ table.sg + start
@@ -46,14 +46,14 @@ pub record Goes (table : Table) (hands : ℕ → List Message) (delay : Delays) 
   pub left : round < n
 
 -- the numbers behind it
-abbrev pub goes_D : Table → (ℕ → ℕ) → Sender → ℕ → ℕ → ℕ
-goes_D table D a start = steps.goes_D table.sg D (station table (λ _. []) a) (record { moment = start; terminal = a.number; message = [] })
+abbrev pub due_behind : Table → (ℕ → ℕ) → Sender → ℕ → ℕ → ℕ
+due_behind table D a start = steps.due_behind table.sg D (station table (λ _. []) a) (record { moment = start; terminal = a.number; message = [] })
 
-abbrev pub goes_G : Table → Delays → Wakes → (ℕ → ℕ) → Sender → Entry → ℕ → ℕ
-goes_G table delay wake G a x = steps.goes_G table.sg table.sg delay wake G a.number x
+abbrev pub gap_from_behind : Table → Delays → Wakes → (ℕ → ℕ) → Sender → Entry → ℕ → ℕ
+gap_from_behind table delay wake G a x = steps.gap_from_behind table.sg table.sg delay wake G a.number x
 
-abbrev pub goes_C : (ℕ → ℕ) → Sender → ℕ → ℕ
-goes_C C a = steps.goes_C C a.number
+abbrev pub sent_behind : (ℕ → ℕ) → Sender → ℕ → ℕ
+sent_behind C a = steps.sent_behind C a.number
 
 -- a sender of the table has its station
 pub stands : (table : Table) (hands : ℕ → List Message) (b : Sender) → In b table.senders → In (station table hands b) (stations table hands)
@@ -73,9 +73,9 @@ module _ (table : Table) (hands : ℕ → List Message) (n : ℕ) (setting : Set
   }
 
   pub known_step : (list : List Entry) (t last : ℕ) (E D G C : ℕ → ℕ) (a : Sender) (round start : ℕ) → In a table.senders
-      → Known table hands delay wake list t last E D G C → Goes table hands delay n last E D G C a round start
-      → Known table hands delay wake (list ++ sends hands round a start ∷ []) (start + 1) (end_of (sends hands round a start))
-      (heard_end delay (sends hands round a start)) (goes_D table D a start) (goes_G table delay wake G a (sends hands round a start)) (goes_C C a)
+      → ScheduledSoFar table hands delay wake list t last E D G C → StartsNext table hands delay n last E D G C a round start
+      → ScheduledSoFar table hands delay wake (list ++ sends hands round a start ∷ []) (start + 1) (end_of (sends hands round a start))
+      (heard_end delay (sends hands round a start)) (due_behind table D a start) (gap_from_behind table delay wake G a (sends hands round a start)) (sent_behind C a)
   known_step list t last E D G C a round start there so goes =
       let x : Entry = sends hands round a start in
       let message : Sendable a (hands a.number) round (get_or (hands a.number) round []) = sendable table hands n setting a round there goes.left in
@@ -100,7 +100,7 @@ module _ (table : Table) (hands : ℕ → List Message) (n : ℕ) (setting : Set
         ends = end_push list x last so.ends goes.behind;
       }
 
-  pub known_none : table.mode ≡ Aperiodic → Known table hands delay wake [] 0 0 (λ _. 0) (λ k. table.sg + wake k) (λ k. table.sg + wake k) (λ _. 0)
+  pub known_none : table.mode ≡ Aperiodic → ScheduledSoFar table hands delay wake [] 0 0 (λ _. 0) (λ k. table.sg + wake k) (λ k. table.sg + wake k) (λ _. 0)
   known_none mode = record {
     base = known_start table.sg table.sg delay wake (stations table hands) timed zeros (λ k. table.sg + wake k)
         (of_stations table hands (λ s. s.timing.quiet + s.timing.due + wake s.number ≡ table.sg + wake s.number) (λ b i. first_due table hands b mode (wake b.number)));
@@ -110,7 +110,7 @@ module _ (table : Table) (hands : ℕ → List Message) (n : ℕ) (setting : Set
       first_due : (table : Table) (hands : ℕ → List Message) (b : Sender) → table.mode ≡ Aperiodic → (w : ℕ) → (quiet_of table + due_for table.mode b) + w ≡ table.sg + w
       first_due table hands b mode w = let d : due_for table.mode b ≡ 0 = ap (λ v. due_for v b) mode in omega (arith, quiet_is table mode)
 
-  pub known_ruled : (list : List Entry) (t last : ℕ) (E D G C : ℕ → ℕ) → Known table hands delay wake list t last E D G C
+  pub known_ruled : (list : List Entry) (t last : ℕ) (E D G C : ℕ → ℕ) → ScheduledSoFar table hands delay wake list t last E D G C
       → IsLawfulOnCableTo table.sg delay wake (stations table hands) (greatest_end list) 0 list
   known_ruled list t last E D G C so =
       subst (λ v. IsLawfulOnCableTo table.sg delay wake (stations table hands) v 0 list) (sym so.ends)
@@ -118,14 +118,14 @@ module _ (table : Table) (hands : ℕ → List Message) (n : ℕ) (setting : Set
 
 -- no sender's terminal gap counts from before its wake
 pub woken : (table : Table) (hands : ℕ → List Message) (delay : Delays) (wake : Wakes) (list : List Entry) (t last : ℕ) (E D G C : ℕ → ℕ)
-    → Known table hands delay wake list t last E D G C → (b : Sender) → In b table.senders → table.sg + wake b.number ≤ G b.number
+    → ScheduledSoFar table hands delay wake list t last E D G C → (b : Sender) → In b table.senders → table.sg + wake b.number ≤ G b.number
 woken table hands delay wake list t last E D G C so b i = (so.base.ticks (station table hands b) (stands table hands b i)).woken
 
 -- the numbers of a sender before anything is sent
 pub sender_start : (table : Table) (hands : ℕ → List Message) (n : ℕ) → Setting table hands n → (delay : Delays) (wake : Wakes) (b : Sender) → In b table.senders
-    → table.mode ≡ Aperiodic → Ticks table hands delay wake b [] 0 (table.sg + wake b.number) (table.sg + wake b.number) 0
+    → table.mode ≡ Aperiodic → HasTimers table hands delay wake b [] 0 (table.sg + wake b.number) (table.sg + wake b.number) 0
 sender_start table hands n setting delay wake b i mode =
     let d : due_for table.mode b ≡ 0 = ap (λ v. due_for v b) mode in
     let due : (quiet_of table + due_for table.mode b) + wake b.number ≡ table.sg + wake b.number = omega (arith, quiet_is table mode) in
-    subst (λ v. Ticks table hands delay wake b [] 0 v (table.sg + wake b.number) 0) due
+    subst (λ v. HasTimers table hands delay wake b [] 0 v (table.sg + wake b.number) 0) due
     (clocks.ticks_start table.sg delay wake (station table hands b) (setting.dealt.sound b i))

@@ -27,7 +27,7 @@ use Rattle.bus_schedule.proofs.Greatest.{ends_within, max_within}
 use Rattle.bus_schedule.proofs.HandLemmas.{Sendable}
 use Rattle.bus_medium.proofs.CableSteps.{put_here, put_other}
 use Rattle.bus_medium.proofs.CableSteps as steps
-use Rattle.bus_reach.proofs.Knowing.{Known, Goes, goes_D, goes_G, goes_C, known_step, woken}
+use Rattle.bus_reach.proofs.Knowing.{ScheduledSoFar, StartsNext, due_behind, gap_from_behind, sent_behind, known_step, woken}
 use Rattle.bus_schedule.proofs.Orders.{rises_before, rises_after, same_sender}
 use Rattle.bus_reach.proofs.SpreadLemmas.{IsTolerant}
 
@@ -69,7 +69,7 @@ pub record Turn (table : Table) (hands : ℕ → List Message) (delay : Delays) 
   pub G : ℕ → ℕ
   pub C : ℕ → ℕ
   pub split : turn_order table ≡ prefix ++ suffix
-  pub known : Known table hands delay wake list t last from D G C
+  pub known : ScheduledSoFar table hands delay wake list t last from D G C
   pub low : (b : Sender) → In b table.senders → lo ≤ from b.number
   pub high : (b : Sender) → In b table.senders → from b.number ≤ lo + spread
   pub last_low : last ≤ lo
@@ -97,7 +97,7 @@ pub record Begin (table : Table) (hands : ℕ → List Message) (delay : Delays)
   pub D : ℕ → ℕ
   pub G : ℕ → ℕ
   pub C : ℕ → ℕ
-  pub known : Known table hands delay wake list t last E D G C
+  pub known : ScheduledSoFar table hands delay wake list t last E D G C
   pub ended : (b : Sender) → In b table.senders → E b.number ≤ lo + spread
   pub first_gap : G first.number ≡ table.sg + from first.number
   pub first_low : lo ≤ from first.number
@@ -193,7 +193,7 @@ module _ (table : Table) (hands : ℕ → List Message) (n : ℕ) (setting : Set
           ]
         ]
 
-    goes : Goes table hands delay n t.last from t.D t.G t.C a (count a.number) (from a.number + a.tg)
+    goes : StartsNext table hands delay n t.last from t.D t.G t.C a (count a.number) (from a.number + a.tg)
     goes =
         let low : t.lo ≤ from a.number = t.low a there in
         let last_low : t.last ≤ t.lo = t.last_low in
@@ -240,7 +240,7 @@ module _ (table : Table) (hands : ℕ → List Message) (n : ℕ) (setting : Set
 
     -- those that are out stay out, and this one now is
     idle_then : (b : Sender) → In b table.senders → IsOut p (prefix ++ a ∷ []) suffix b
-        → goes_G table delay wake t.G a x b.number
+        → gap_from_behind table delay wake t.G a x b.number
         ≡ max (table.sg + heard_end delay x b.number + table.sg) (table.sg + wake b.number)
     idle_then b i out =
         elim (cases_eq b.number a.number) [
@@ -261,8 +261,8 @@ module _ (table : Table) (hands : ℕ → List Message) (n : ℕ) (setting : Set
         ]
 
     due_idle_then : (b : Sender) → In b table.senders → IsOut p (prefix ++ a ∷ []) suffix b
-        → (goes_D table t.D a (from a.number + a.tg) b.number ≤ table.sg + wake b.number)
-        ⊎ (goes_D table t.D a (from a.number + a.tg) b.number
+        → (due_behind table t.D a (from a.number + a.tg) b.number ≤ table.sg + wake b.number)
+        ⊎ (due_behind table t.D a (from a.number + a.tg) b.number
         ≤ table.sg + end_of x + total share suffix + table.sg + before share (turn_order table) b.number + b.tg)
     due_idle_then b i out =
         let low : t.lo ≤ from a.number = t.low a there in
@@ -298,9 +298,9 @@ module _ (table : Table) (hands : ℕ → List Message) (n : ℕ) (setting : Set
           lo = end_of x;
           t = from a.number + a.tg + 1;
           last = end_of x;
-          D = goes_D table t.D a (from a.number + a.tg);
-          G = goes_G table delay wake t.G a x;
-          C = goes_C t.C a;
+          D = due_behind table t.D a (from a.number + a.tg);
+          G = gap_from_behind table delay wake t.G a x;
+          C = sent_behind t.C a;
           split = t.split ∙ sym (append_assoc prefix (a ∷ []) suffix);
           known = known_step table hands n setting delay wake tolerant.own list t.t t.last from t.D t.G t.C a (count a.number) (from a.number + a.tg) there t.known goes;
           low = λ b i. omega arith;

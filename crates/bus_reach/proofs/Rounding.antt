@@ -24,7 +24,7 @@ use Rattle.bus_schedule.proofs.Greatest.{ends_within, max_within}
 use Rattle.bus_schedule.proofs.HandLemmas.{Sendable}
 use Rattle.bus_medium.proofs.CableSteps.{put_here, put_other}
 use Rattle.bus_medium.proofs.CableSteps as steps
-use Rattle.bus_reach.proofs.Knowing.{Goes, goes_D, goes_G, goes_C, known_step, woken}
+use Rattle.bus_reach.proofs.Knowing.{StartsNext, due_behind, gap_from_behind, sent_behind, known_step, woken}
 use Rattle.bus_schedule.proofs.Orders.{rises_after}
 use Rattle.bus_reach.proofs.SpreadLemmas.{IsTolerant}
 use Rattle.bus_reach.proofs.RoundTurns as turns
@@ -104,7 +104,7 @@ module _ (table : Table) (hands : ℕ → List Message) (n : ℕ) (setting : Set
         let g : t.G first.number ≡ table.sg + from first.number = t.first_gap in
         omega arith
 
-    opens_goes : Goes table hands delay n t.last t.E t.D t.G t.C first (count first.number) (from first.number + first.tg)
+    opens_goes : StartsNext table hands delay n t.last t.E t.D t.G t.C first (count first.number) (from first.number + first.tg)
     opens_goes =
         let low : t.lo ≤ from first.number = t.first_low in
         let high : from first.number ≤ t.lo + spread = t.first_high in
@@ -144,7 +144,7 @@ module _ (table : Table) (hands : ℕ → List Message) (n : ℕ) (setting : Set
         ])
 
     idle_first : (b : Sender) → In b table.senders → IsOut awake_for (first ∷ []) others b
-        → goes_G table delay wake t.G first opens b.number
+        → gap_from_behind table delay wake t.G first opens b.number
         ≡ max (table.sg + heard_end delay opens b.number + table.sg) (table.sg + wake b.number)
     idle_first b i out =
         elim out [
@@ -182,9 +182,9 @@ module _ (table : Table) (hands : ℕ → List Message) (n : ℕ) (setting : Set
           lo = end_of opens;
           t = from first.number + first.tg + 1;
           last = end_of opens;
-          D = goes_D table t.D first (from first.number + first.tg);
-          G = goes_G table delay wake t.G first opens;
-          C = goes_C t.C first;
+          D = due_behind table t.D first (from first.number + first.tg);
+          G = gap_from_behind table delay wake t.G first opens;
+          C = sent_behind t.C first;
           split = order_is;
           known = known_step table hands n setting delay wake tolerant.own list t.t t.last t.E t.D t.G t.C first (count first.number) (from first.number + first.tg) first_in t.known opens_goes;
           low = λ b i. omega arith;

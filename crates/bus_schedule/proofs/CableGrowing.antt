@@ -15,7 +15,7 @@ use Rattle.bus_medium.specs.Delays.{Delays, later, heard, heard_end}
 use Rattle.bus_medium.specs.Lawful.{Station}
 use Rattle.bus_medium.specs.Timings.{quiet_of, due_for}
 use Rattle.bus_medium.specs.Wakes.{settled}
-use Rattle.bus_medium.proofs.CableSteps.{AreTimed, Known, Goes, goes_D, goes_G, goes_C, known_step, known_start, known_lawful}
+use Rattle.bus_medium.proofs.CableSteps.{AreTimed, ScheduledSoFar, StartsNext, due_behind, gap_from_behind, sent_behind, known_step, known_start, known_lawful}
 use Rattle.bus_medium.proofs.Hearing.{cable_looks, heard_push}
 use Rattle.bus_medium.proofs.Ruled.{ruled_whole}
 use Rattle.bus_schedule.specs.Closed.{sends}
@@ -41,7 +41,7 @@ timed table hands dealt = record {
 -- the schedule so far, decided up to moment t; who hears it soon enough hears no two overlap
 pub record Grown (Apart : ℕ → Type 0) (table : Table) (hands : ℕ → List Message) (delay : Delays) (list : List Entry) (e : ℕ) (end due gap count : ℕ → ℕ) : Type 0 where
   pub t : ℕ
-  pub known : Known (quiet_of table) delay settled (stations table hands) list t e end due gap count
+  pub known : ScheduledSoFar (quiet_of table) delay settled (stations table hands) list t e end due gap count
   pub ended : HaveEnded list e
   pub ends : greatest_end list ≡ e
   pub of : (x : Entry) → In x list → In x.terminal (sender_numbers table)
@@ -63,13 +63,13 @@ module _ (Apart : ℕ → Type 0) (delay : Delays) (own : (x : Entry) → delay 
       → ((number : ℕ) → Apart number → HaveEnded (heard delay number list) moment)
       → Takes table hands delay end due gap count sender round moment
       → Grown Apart table hands delay (list ++ sends hands round sender moment ∷ []) (end_of (sends hands round sender moment))
-      (heard_end delay (sends hands round sender moment)) (goes_D (quiet_of table) due (station table hands sender) (sends hands round sender moment))
-      (goes_G (quiet_of table) table.sg delay settled gap sender.number (sends hands round sender moment)) (goes_C count sender.number)
+      (heard_end delay (sends hands round sender moment)) (due_behind (quiet_of table) due (station table hands sender) (sends hands round sender moment))
+      (gap_from_behind (quiet_of table) table.sg delay settled gap sender.number (sends hands round sender moment)) (sent_behind count sender.number)
   grown_step list e end due gap count sender round moment more so i low all_heard takes =
       let x : Entry = sends hands round sender moment in
       let m : Sendable sender (hands sender.number) round (get_or (hands sender.number) round []) = message_left table hands dealt sender round i more in
       let place = in_map (station table hands) table.senders sender i in
-      let goes : Goes (quiet_of table) delay (stations table hands) e end due gap count (station table hands sender) (sends hands round sender moment) = record {
+      let goes : StartsNext (quiet_of table) delay (stations table hands) e end due gap count (station table hands sender) (sends hands round sender moment) = record {
         there = place;
         mine = refl;
         some = m.some;

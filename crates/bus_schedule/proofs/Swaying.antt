@@ -23,7 +23,7 @@ use Rattle.bus_medium.specs.Delays.{Delays, HearsWithin, heard, heard_end}
 use Rattle.bus_medium.specs.Wakes.{settled}
 use Rattle.bus_schedule.specs.Slack.{slack_behind, stays, all_stay}
 use Rattle.bus_medium.proofs.CableClocks.{gap_elapsed, gap_waiting}
-use Rattle.bus_medium.proofs.CableSteps.{put_here, put_other, goes_G, goes_here, goes_other}
+use Rattle.bus_medium.proofs.CableSteps.{put_here, put_other, gap_from_behind, goes_here, goes_other}
 use Rattle.bus_medium.proofs.Hearing.{heard_ended}
 use Rattle.bus_schedule.proofs.Orders.{rises_before, rises_after, same_sender}
 use Rattle.bus_schedule.proofs.HandLemmas.{Sendable}
@@ -81,7 +81,7 @@ at_number_is [] a d i = absurd i
 at_number_is (b ∷ senders) a d (inl same) = rw (eq-eqb a.number b.number (ap (λ (c : Sender). c.number) same)) (ap (λ (c : Sender). c.at) (sym same))
 at_number_is (b ∷ senders) a d (inr i) = rw (ne_eqb a.number b.number (λ e. d.0 a i (sym e))) (at_number_is senders a d.1 i)
 
-goes_near : (q sg : ℕ) (delay : Delays) (gap : ℕ → ℕ) (n : ℕ) (x : Entry) (k : ℕ) → goes_G q sg delay settled gap n x k ≤ q + heard_end delay x k + sg
+goes_near : (q sg : ℕ) (delay : Delays) (gap : ℕ → ℕ) (n : ℕ) (x : Entry) (k : ℕ) → gap_from_behind q sg delay settled gap n x k ≤ q + heard_end delay x k + sg
 goes_near q sg delay gap n x k = elim (cases_eq k n) [
   | inl here ↦ omega (arith, goes_here q sg delay settled gap n x k here)
   | inr apart ↦ elim (cases_lt (q + (x.moment + delay x k)) (gap k)) [
@@ -91,7 +91,7 @@ goes_near q sg delay gap n x k = elim (cases_eq k n) [
 ]
 
 goes_elapsed : (q sg : ℕ) (delay : Delays) (gap : ℕ → ℕ) (n : ℕ) (x : Entry) (k : ℕ) → k ≢ n → gap k ≤ q + (x.moment + delay x k)
-    → goes_G q sg delay settled gap n x k ≡ q + heard_end delay x k
+    → gap_from_behind q sg delay settled gap n x k ≡ q + heard_end delay x k
 goes_elapsed q sg delay gap n x k apart elapsed =
     goes_other q sg delay settled gap n x k apart ∙ gap_elapsed q sg 0 (gap k) (x.moment + delay x k) (heard_end delay x k) elapsed
 
@@ -248,7 +248,7 @@ module _ (Apart : ℕ → Type 0) (delay : Delays) (own : (x : Entry) → delay 
         e = end_of (sends messages round a (base + a.at));
         end = heard_end delay (sends messages round a (base + a.at));
         due = put w.due a.number (quiet_of table + (base + a.at) + table.ti);
-        gap = goes_G (quiet_of table) table.sg delay settled w.gap a.number (sends messages round a (base + a.at));
+        gap = gap_from_behind (quiet_of table) table.sg delay settled w.gap a.number (sends messages round a (base + a.at));
         count = put w.count a.number (w.count a.number + 1);
         grown = grown_step Apart delay own table messages setting.dealt list w.e w.end w.due w.gap w.count a round (base + a.at) (has_left table messages n setting a round there more) w.grown there low all_heard takes;
         split = order ∙ sym (append_assoc done (a ∷ []) rest);

@@ -21,7 +21,7 @@ use Rattle.bus_medium.specs.inside.Lazy.{HaveEnded}
 use Rattle.bus_medium.specs.Delays.{at_once, heard, heard_end}
 use Rattle.bus_medium.specs.Wakes.{settled}
 use Rattle.bus_medium.proofs.CableClocks.{gap_elapsed, gap_waiting, max_first}
-use Rattle.bus_medium.proofs.CableSteps.{put_here, put_other, goes_D, goes_G, goes_C, goes_here, goes_other}
+use Rattle.bus_medium.proofs.CableSteps.{put_here, put_other, due_behind, gap_from_behind, sent_behind, goes_here, goes_other}
 use Rattle.bus_medium.proofs.Hearing.{heard_ended}
 use Rattle.bus_schedule.specs.Closed.{sends, turns, turns_end, origin}
 use Rattle.bus_schedule.specs.Live.{live, live_rounds, AreLong}
@@ -189,9 +189,9 @@ module _ (table : Table) (hands : ℕ → List Message)
       record {
         e = end_of (sends hands round a (from + a.tg));
         end = heard_end at_once (sends hands round a (from + a.tg));
-        due = goes_D (quiet_of table) t.due (station table hands a) (sends hands round a (from + a.tg));
-        gap = goes_G (quiet_of table) table.sg at_once settled t.gap a.number (sends hands round a (from + a.tg));
-        count = goes_C t.count a.number;
+        due = due_behind (quiet_of table) t.due (station table hands a) (sends hands round a (from + a.tg));
+        gap = gap_from_behind (quiet_of table) table.sg at_once settled t.gap a.number (sends hands round a (from + a.tg));
+        count = sent_behind t.count a.number;
         sofar = grown_step (λ _. Unit {0}) at_once (λ x. refl) table hands dealt list t.e t.end t.due t.gap t.count a round (from + a.tg) more t.sofar there (omega arith)
             (λ k none. all_heard list t.e from a.tg k t.sofar.ended low) takes;
         ended = λ b i. omega arith;

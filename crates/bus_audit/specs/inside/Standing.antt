@@ -11,7 +11,7 @@ use Rattle.bus_trace.specs.Traces.{Recording}
 use Rattle.bus_medium.specs.Past.{past, own, last_place}
 use Rattle.bus_medium.specs.Lawful.{IsBefore}
 use Rattle.bus_medium.specs.Timings.{quiet_of, timing_of}
-use Rattle.bus_audit.specs.declared.clock.Clock.{Clock}
+use Rattle.bus_audit.specs.declared.progress.Progress.{Progress}
 use Rattle.bus_audit.specs.declared.watch.Watch.{Watch}
 use Rattle.bus_audit.specs.Breaches.{held, IsCleanTo}
 use Rattle.bus_audit.specs.inside.Watches.{ready, ready_moment, pair, AreLow, NoneBefore}
@@ -102,42 +102,43 @@ pub record Arrived (table : Table) (trace : Recording) (watches : List Watch) (c
   pub near : c ≤ t → Near trace.list t e m
 
 -- The numbers are far below the end of their type.
-pub record AreFar (watches : List Watch) (clock : Clock) : Type 0 where
+pub record AreFar (watches : List Watch) (progress : Progress) : Type 0 where
   pub low : AreLow watches
-  pub moment : clock.moment < 2 ^ 41
-  pub end : clock.end < 2 ^ 41
+  pub moment : progress.moment < 2 ^ 41
+  pub end : progress.end < 2 ^ 41
 
 -- All is judged up to a pair, from which on no entry is before the pair (t, m).
-pub record Judged (table : Table) (trace : Recording) (clock : Clock) (watches : List Watch) (t m : ℕ) : Type 0 where
+pub record Judged (table : Table) (trace : Recording) (progress : Progress) (watches : List Watch) (t m : ℕ) : Type 0 where
   pub number : ℕ
-  pub stands : Stands table trace watches clock.moment number
-  pub near : Near trace.list clock.moment clock.end number
-  pub none : NoEntries trace.list clock.moment number t m
-  pub upto : NotBefore t m clock.moment number
-  pub far : AreFar watches clock
+  pub stands : Stands table trace watches progress.moment number
+  pub near : Near trace.list progress.moment progress.end number
+  pub none : NoEntries trace.list progress.moment number t m
+  pub upto : NotBefore t m progress.moment number
+  pub far : AreFar watches progress
 
 -- The watches tell what comes before the pair (t, m); where nobody is missed before it, that pair is reached.
-pub record Closed (table : Table) (trace : Recording) (clock : Clock) (watches : List Watch) (t m : ℕ) : Type 0 where
+pub record Closed (table : Table) (trace : Recording) (progress : Progress) (watches : List Watch) (t m : ℕ) : Type 0 where
   pub moment : ℕ
   pub number : ℕ
-  pub told : Told table trace watches clock.moment moment number t
+  pub told : Told table trace watches progress.moment moment number t
   pub none : NoEntries trace.list moment number t m
-  pub arrived : NoneBefore (quiet_of table) clock.moment watches (pair t m) → Arrived table trace watches clock.moment clock.end t m
-  pub far : AreFar watches clock
+  pub arrived : NoneBefore (quiet_of table) progress.moment watches (pair t m)
+      → Arrived table trace watches progress.moment progress.end t m
+  pub far : AreFar watches progress
 
 -- All is judged up to the entry of terminal n at the moment of the clock, that entry included.
-pub record Behind (table : Table) (trace : Recording) (clock : Clock) (watches : List Watch) (t n : ℕ) : Type 0 where
-  pub moment : clock.moment ≡ t
+pub record Behind (table : Table) (trace : Recording) (progress : Progress) (watches : List Watch) (t n : ℕ) : Type 0 where
+  pub moment : progress.moment ≡ t
   pub stands : Stands table trace watches t (n + 1)
-  pub near : Near trace.list t clock.end (n + 1)
-  pub far : AreFar watches clock
+  pub near : Near trace.list t progress.end (n + 1)
+  pub far : AreFar watches progress
 
 -- All is judged up to entry i of the list, that entry left out.
-pub record JudgedTo (table : Table) (trace : Recording) (clock : Clock) (watches : List Watch) (i : ℕ) : Type 0 where
+pub record JudgedTo (table : Table) (trace : Recording) (progress : Progress) (watches : List Watch) (i : ℕ) : Type 0 where
   pub number : ℕ
-  pub stands : Stands table trace watches clock.moment number
-  pub near : Near trace.list clock.moment clock.end number
-  pub before : (k : ℕ) (x : Entry) → slice_get trace.list k ≡ Some x → k < i → IsBefore x.moment x.terminal clock.moment number
-  pub behind : (k : ℕ) (x : Entry) → slice_get trace.list k ≡ Some x → i ≤ k → NotBefore x.moment x.terminal clock.moment number
-  pub upto : (clock.moment < trace.horizon) ⊎ ((clock.moment ≡ 0) × (number ≡ 0))
-  pub far : AreFar watches clock
+  pub stands : Stands table trace watches progress.moment number
+  pub near : Near trace.list progress.moment progress.end number
+  pub before : (k : ℕ) (x : Entry) → slice_get trace.list k ≡ Some x → k < i → IsBefore x.moment x.terminal progress.moment number
+  pub behind : (k : ℕ) (x : Entry) → slice_get trace.list k ≡ Some x → i ≤ k → NotBefore x.moment x.terminal progress.moment number
+  pub upto : (progress.moment < trace.horizon) ⊎ ((progress.moment ≡ 0) × (number ≡ 0))
+  pub far : AreFar watches progress

@@ -1,5 +1,5 @@
 -- A run that tells a core what was heard only where its sender starts, and at the horizon. Beside each sender stand numbers that tell when
--- that is: its clock. Their places are those of the past. A watch is how the code keeps a clock: by the end of what all have heard.
+-- that is: its clock. Their places are those of the past. `Timers` is how the code keeps a clock: by the end of what all have heard.
 use Rattle.std.specs.Prelude.{◌≡◌, ◌≢◌, ℕ, ◌+◌, ◌-◌, ◌^◌, ◌<◌, ◌≤◌, ◌⊎◌, Bool, nat_lt, nat_le, max, [], ◌∷◌, List, length}
 use Rattle.std.specs.Prelude.{map, take, slice_get, Option, Some, None, IfSome, if◌then◌else◌}
 use Rattle.std.specs.Option.{MatchOption, option_and_then}
@@ -17,8 +17,8 @@ use Rattle.bus_medium.specs.Jumps.{Each}
 use Rattle.bus_medium.specs.inside.Following.{Idle, Started}
 use Rattle.bus_medium.specs.inside.Runs.{RunsTo, Decided}
 use Rattle.bus_medium.specs.Buses.{Seat}
-use Rattle.bus_medium.specs.declared.clock.Watch.{Watch}
-use Rattle.bus_medium.specs.declared.clock.Heard.{Heard}
+use Rattle.bus_medium.specs.declared.timers.Timers.{Timers}
+use Rattle.bus_medium.specs.declared.timers.BusIdle.{BusIdle}
 use Rattle.bus_medium.specs.Lawful.{Station}
 
 -- Every transmission of the list has ended at moment t.
@@ -39,20 +39,20 @@ pub record Clock : Type 0 where
   pub gap_from : ℕ
   pub ready : ℕ
 
--- The clock that a watch keeps, where the bus became quiet at the place `ended`.
-abbrev pub clock_of : ℕ → Watch → Clock
-clock_of ended watch = record {
-  sg = watch.sg;
-  tg = watch.tg;
-  told = watch.told;
-  due = watch.due;
-  gap_from = ended + watch.behind;
-  ready = max watch.due (ended + watch.behind + watch.tg);
+-- The clock that a timers keeps, where the bus became quiet at the place `ended`.
+abbrev pub clock_of : ℕ → Timers → Clock
+clock_of ended timers = record {
+  sg = timers.sg;
+  tg = timers.tg;
+  told = timers.told;
+  due = timers.due;
+  gap_from = ended + timers.behind;
+  ready = max timers.due (ended + timers.behind + timers.tg);
 }
 
 -- The clocks of all.
-abbrev pub clocks_of : ℕ → List Watch → List Clock
-clocks_of ended watches = map (clock_of ended) watches
+abbrev pub clocks_of : ℕ → List Timers → List Clock
+clocks_of ended all_timers = map (clock_of ended) all_timers
 
 -- The place of a moment that never comes.
 abbrev pub never : ℕ
@@ -185,44 +185,44 @@ pub record IsAlone (place : ℕ) (clocks : List Clock) (p : ℕ) : Type 0 where
   pub within : p < length clocks
   pub others : (j : ℕ) (k : Clock) → j ≢ p → slice_get clocks j ≡ Some k → place < k.ready
 
--- A watch between two messages: its synchronization gap elapsed before the bus became quiet, or counts from there, and its terminal gap
+-- A timers between two messages: its synchronization gap elapsed before the bus became quiet, or counts from there, and its terminal gap
 -- counts behind that.
-pub record IsKept (watch : Watch) : Type 0 where
-  pub counted : (watch.behind ≡ 0) ⊎ (watch.behind ≡ watch.sg)
-  pub small : watch.behind < 2 ^ 32
-  pub over : watch.over ≡ watch.behind + watch.tg
+pub record IsKept (timers : Timers) : Type 0 where
+  pub counted : (timers.behind ≡ 0) ⊎ (timers.behind ≡ timers.sg)
+  pub small : timers.behind < 2 ^ 32
+  pub over : timers.over ≡ timers.behind + timers.tg
 
 -- No sender has a shorter synchronization gap.
 abbrev pub AreNoShorter : ℕ → List Clock → Type 0
 AreNoShorter least clocks = (j : ℕ) (k : Clock) → slice_get clocks j ≡ Some k → least ≤ k.sg
 
--- Every watch is kept.
-abbrev pub EachKept : List Watch → Type 0
-EachKept watches = (j : ℕ) (w : Watch) → slice_get watches j ≡ Some w → IsKept w
+-- Every timers is kept.
+abbrev pub EachKept : List Timers → Type 0
+EachKept all_timers = (j : ℕ) (w : Timers) → slice_get all_timers j ≡ Some w → IsKept w
 
--- All watches between two messages, at the place now.
-pub record AreKept (heard : Heard) (now : ℕ) (watches : List Watch) : Type 0 where
-  pub ended : heard.ended ≤ now
-  pub least : AreNoShorter heard.least (clocks_of heard.ended watches)
-  pub each : EachKept watches
+-- All timers between two messages, at the place now.
+pub record AreKept (idle : BusIdle) (now : ℕ) (all_timers : List Timers) : Type 0 where
+  pub ended : idle.ended ≤ now
+  pub least : AreNoShorter idle.least (clocks_of idle.ended all_timers)
+  pub each : EachKept all_timers
 
 -- All but the one of the sender that started alone.
-abbrev pub OthersKept : Option ℕ → List Watch → Type 0
-OthersKept alone watches =
-    IfSome alone (λ p. (p < length watches) × ((j : ℕ) (w : Watch) → j ≢ p → slice_get watches j ≡ Some w → IsKept w))
+abbrev pub OthersKept : Option ℕ → List Timers → Type 0
+OthersKept alone all_timers =
+    IfSome alone (λ p. (p < length all_timers) × ((j : ℕ) (w : Timers) → j ≢ p → slice_get all_timers j ≡ Some w → IsKept w))
 
--- A watch tells that its sender is ready later than the most, a place so far behind the one at which the bus became quiet: its interval
+-- A timers tells that its sender is ready later than the most, a place so far behind the one at which the bus became quiet: its interval
 -- elapses later, or its terminal gap is over later.
-abbrev pub IsLater : ℕ → ℕ → Watch → Type 0
-IsLater most behind watch = (most < watch.due) ⊎ (behind < watch.over)
+abbrev pub IsLater : ℕ → ℕ → Timers → Type 0
+IsLater most behind timers = (most < timers.due) ⊎ (behind < timers.over)
 
 -- It tells that its sender is ready by then.
-abbrev pub IsSoon : ℕ → ℕ → Watch → Type 0
-IsSoon most behind watch = (watch.due ≤ most) × (watch.over ≤ behind)
+abbrev pub IsSoon : ℕ → ℕ → Timers → Type 0
+IsSoon most behind timers = (timers.due ≤ most) × (timers.over ≤ behind)
 
--- The watches from one place of the list up to another tell that their senders are ready later.
-abbrev pub AreLater : ℕ → ℕ → List Watch → ℕ → ℕ → Type 0
-AreLater most behind watches from to = (j : ℕ) (w : Watch) → from ≤ j → j < to → slice_get watches j ≡ Some w → IsLater most behind w
+-- The timers from one place of the list up to another tell that their senders are ready later.
+abbrev pub AreLater : ℕ → ℕ → List Timers → ℕ → ℕ → Type 0
+AreLater most behind all_timers from to = (j : ℕ) (w : Timers) → from ≤ j → j < to → slice_get all_timers j ≡ Some w → IsLater most behind w
 
 -- The clock of a sender at the settled start.
 pub record IsSettled {C : Type 0} (quiet : ℕ) (seat : Seat C) (clock : Clock) : Type 0 where

@@ -2,8 +2,8 @@ use Rattle.bus_medium.proofs.Stretching.{EachSoFar}
 use Rattle.bus_audit.proofs.Keeping.{Told, SoonSoFar}
 use Rattle.bus_audit.proofs.check.find_all.Given as goal
 
-abbrev pub invariant-loop-keep : goal.invariant-loop-keep
-invariant-loop-keep l = record {
-  told : EachSoFar (Told l.heard) l.initial.keeps l.keeps l.keep-index;
-  soon : SoonSoFar l.first l.keeps l.keep-index;
+abbrev pub invariant-loop-lazy : goal.invariant-loop-lazy
+invariant-loop-lazy l = record {
+  told : EachSoFar (Told l.heard) l.initial.timers l.timers l.lazy-index;
+  soon : SoonSoFar l.first l.timers l.lazy-index;
 }

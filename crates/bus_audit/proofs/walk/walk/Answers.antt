@@ -1,5 +1,5 @@
 use Rattle.std.proofs.Common.{arith, ◌≡◌, ◌≤◌, ◌+◌, ℕ, map, length, refl, sym, ap, subst}
-use Rattle.bus_audit.specs.declared.keep.Heard.{Heard}
+use Rattle.bus_audit.specs.declared.lazy_timers.Heard.{Heard}
 use Rattle.bus_audit.specs.inside.Watches.{settled}
 use Rattle.bus_audit.specs.inside.Keeping.{watches_of, AreKept}
 use Rattle.bus_audit.specs.inside.Standing.{Judged}
@@ -16,9 +16,9 @@ loop-x-init c =
     let sg : c.sg.result ≡ c.args.table.now.sg = c.sg.ensures.value in
     let least : c.args.table.now.sg ≤ c.quiet-quiet.result = c.quiet-quiet.ensures.least in
     let made = subst (λ ks. watches_of first ks ≡ map (settled table trace.holds) table.senders) (sym c.requires) (settled_watches table trace.holds table.senders) in
-    let begun : Started table trace c.quiet-quiet.result (record { from = 0; ended = 0; sg = c.sg.result }) c.args.keeps.now =
-    subst (λ n. Started table trace c.quiet-quiet.result (record { from = 0; ended = 0; sg = n }) c.args.keeps.now) (sym sg) (record {
-      judged = judged_none table trace (record { moment = 0; end = 0 }) (watches_of first c.args.keeps.now) c.senders-valid.ensures.valid refl refl made;
+    let begun : Started table trace c.quiet-quiet.result (record { from = 0; ended = 0; sg = c.sg.result }) c.args.timers.now =
+    subst (λ n. Started table trace c.quiet-quiet.result (record { from = 0; ended = 0; sg = n }) c.args.timers.now) (sym sg) (record {
+      judged = judged_none table trace (record { moment = 0; end = 0 }) (watches_of first c.args.timers.now) c.senders-valid.ensures.valid refl refl made;
       kept = subst (λ ks. AreKept first (c.quiet-quiet.result + 0) (c.quiet-quiet.result + 0) ks) (sym c.requires) (settled_kept table trace.holds (c.quiet-quiet.result + 0) (omega (arith, least, some_sg table c.senders-valid.ensures.valid)));
     }) in
     record { judged = begun.judged; kept = begun.kept }
@@ -28,18 +28,18 @@ step-requires-clause-there c = at_in c.args.trace.now.list c.loop-x.x-index c.x-
 
 pub step-requires-clause-judged : goal.step-requires-clause-judged
 step-requires-clause-judged c =
-    judged_entry c.args.table.now c.args.trace.now c.loop-x.clock (watches_of c.loop-x.heard c.loop-x.keeps) c.loop-x.x-index c.x-item.result c.list-x-items.ensures.ranges
+    judged_entry c.args.table.now c.args.trace.now c.loop-x.progress (watches_of c.loop-x.heard c.loop-x.timers) c.loop-x.x-index c.x-item.result c.list-x-items.ensures.ranges
     (entry_read c.args.trace.now.list c.list-x-items.result.now c.loop-x.x-index c.x-item.result c.list-x-items.ensures.value c.loop-x-test.true c.x-item.is) c.loop-x.invariant.judged
 
 pub loop-x-preserved : goal.loop-x-preserved
 loop-x-preserved c = record {
-  judged = judged_more c.args.table.now c.args.trace.now c.in_ok-clock.clock (watches_of c.step.new.heard c.step.new.keeps) c.loop-x.x-index c.x-item.result c.list-x-items.ensures.ranges
-      (entry_read c.args.trace.now.list c.list-x-items.result.now c.loop-x.x-index c.x-item.result c.list-x-items.ensures.value c.loop-x-test.true c.x-item.is) c.in_ok-clock.ensures.ok;
-  kept = c.in_ok-clock.ensures.kept;
+  judged = judged_more c.args.table.now c.args.trace.now c.in_ok-progress.progress (watches_of c.step.new.heard c.step.new.timers) c.loop-x.x-index c.x-item.result c.list-x-items.ensures.ranges
+      (entry_read c.args.trace.now.list c.list-x-items.result.now c.loop-x.x-index c.x-item.result c.list-x-items.ensures.value c.loop-x-test.true c.x-item.is) c.in_ok-progress.ensures.ok;
+  kept = c.in_ok-progress.ensures.kept;
 }
 
 pub reach-requires-clause-judged : goal.reach-requires-clause-judged
 reach-requires-clause-judged c =
     let past : length c.list-x-items.result.now ≤ c.loop-x.x-index = omega arith in
-    subst (λ (h : ℕ). Judged c.args.table.now c.args.trace.now c.loop-x.clock (watches_of c.loop-x.heard c.loop-x.keeps) h 0) (sym c.horizon-horizon.ensures.value)
-    (judged_all c.args.table.now c.args.trace.now c.loop-x.clock (watches_of c.loop-x.heard c.loop-x.keeps) c.loop-x.x-index (omega (arith, ap length c.list-x-items.ensures.value, past)) c.loop-x.invariant.judged)
+    subst (λ (h : ℕ). Judged c.args.table.now c.args.trace.now c.loop-x.progress (watches_of c.loop-x.heard c.loop-x.timers) h 0) (sym c.horizon-horizon.ensures.value)
+    (judged_all c.args.table.now c.args.trace.now c.loop-x.progress (watches_of c.loop-x.heard c.loop-x.timers) c.loop-x.x-index (omega (arith, ap length c.list-x-items.ensures.value, past)) c.loop-x.invariant.judged)

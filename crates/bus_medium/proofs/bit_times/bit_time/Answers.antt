@@ -19,5 +19,5 @@ returns-clause-numbers g c =
 pub returns-clause-reached : goal.returns-clause-reached
 returns-clause-reached g c =
     let heard : c.any_on-carrier.result ≡ list_any seat_sounds c.decide_all.new.seats = cc in
-    bit_reached g.C.Core c.args.roster.now.quiet c.args.moment c.any_on-carrier.result c.args.seats.now c.decide_all.new.seats c.pass_all.new.seats
+    bit_reached g.C.Core c.args.send_order.now.quiet c.args.moment c.any_on-carrier.result c.args.seats.now c.decide_all.new.seats c.pass_all.new.seats
     c.args.list.now.items c.decide_all.new.list.items c.in_ok-decide_all.ensures.decided heard c.pass_all.ensures

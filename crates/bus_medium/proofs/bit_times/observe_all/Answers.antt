@@ -1,6 +1,6 @@
 use Rattle.std.proofs.Common.{◌+◌, ℕ, List, arith, sym, ◌∙◌, subst}
 use Rattle.bus_strings.specs.Messages.{Entry}
-use Rattle.bus_medium.specs.Orders.{IsRoster}
+use Rattle.bus_medium.specs.Orders.{IsSendOrder}
 use Rattle.bus_medium.specs.inside.Runs.{Reached}
 use Rattle.bus_medium.proofs.Seats.{same_numbers, own_numbers}
 use Rattle.bus_medium.proofs.Running.{reached_none, reached_more, reached_lawful, reached_only, reached_stands}
@@ -8,33 +8,33 @@ use Rattle.bus_medium.proofs.bit_times.observe_all.Goals as goal
 
 pub loop-moment-init : goal.loop-moment-init
 loop-moment-init g c =
-    let q = c.args.roster.now.quiet in
+    let q = c.args.send_order.now.quiet in
     let xs = c.args.seats.now in
     subst (λ (l : List Entry). Reached g.C.Core q 0 xs xs l) (sym c.new-list.ensures.items) (reached_none g.C.Core q xs c.requires.stands)
 
-pub bit_time-requires-clause-roster : goal.bit_time-requires-clause-roster
-bit_time-requires-clause-roster g c =
-    subst (λ (ns : List ℕ). IsRoster ns c.args.roster.now.places.items)
-    (sym (same_numbers c.args.seats.now c.loop-moment.seats c.loop-moment.invariant.stations)) c.requires.roster
+pub bit_time-requires-clause-send_order : goal.bit_time-requires-clause-send_order
+bit_time-requires-clause-send_order g c =
+    subst (λ (ns : List ℕ). IsSendOrder ns c.args.send_order.now.places.items)
+    (sym (same_numbers c.args.seats.now c.loop-moment.seats c.loop-moment.invariant.stations)) c.requires.send_order
 
 pub loop-moment-preserved : goal.loop-moment-preserved
 loop-moment-preserved g c =
-    reached_more g.C.Core c.args.roster.now.quiet c.loop-moment.moment (c.loop-moment.moment + 1) c.args.seats.now c.loop-moment.seats c.bit_time.new.seats
+    reached_more g.C.Core c.args.send_order.now.quiet c.loop-moment.moment (c.loop-moment.moment + 1) c.args.seats.now c.loop-moment.seats c.bit_time.new.seats
     c.loop-moment.list.items c.bit_time.new.list.items c.loop-moment.invariant c.in_ok-bit_time.ensures.reached
 
 pub returns-clause-lawful : goal.returns-clause-lawful
 returns-clause-lawful g c =
-    reached_lawful g.C.Core c.args.roster.now.quiet c.loop-moment.moment c.args.horizon c.args.seats.now c.loop-moment.seats c.loop-moment.list.items
+    reached_lawful g.C.Core c.args.send_order.now.quiet c.loop-moment.moment c.args.horizon c.args.seats.now c.loop-moment.seats c.loop-moment.list.items
     c.loop-moment.invariant (omega arith)
 
 pub returns-clause-only : goal.returns-clause-only
 returns-clause-only g c =
-    reached_only g.C.Core c.args.roster.now.quiet c.loop-moment.moment c.args.horizon c.args.seats.now c.loop-moment.seats c.loop-moment.list.items
-    (own_numbers c.args.seats.now c.args.roster.now.places.items c.requires.roster.order) c.loop-moment.invariant (omega arith)
+    reached_only g.C.Core c.args.send_order.now.quiet c.loop-moment.moment c.args.horizon c.args.seats.now c.loop-moment.seats c.loop-moment.list.items
+    (own_numbers c.args.seats.now c.args.send_order.now.places.items c.requires.send_order.order) c.loop-moment.invariant (omega arith)
 
 pub returns-clause-stands : goal.returns-clause-stands
 returns-clause-stands g c =
-    reached_stands g.C.Core c.args.roster.now.quiet c.loop-moment.moment c.args.horizon c.args.seats.now c.loop-moment.seats c.loop-moment.list.items
+    reached_stands g.C.Core c.args.send_order.now.quiet c.loop-moment.moment c.args.horizon c.args.seats.now c.loop-moment.seats c.loop-moment.list.items
     c.loop-moment.invariant (omega arith) (omega (arith, c.requires.horizon))
 
 pub returns-in_err-bit_time-clause-numbers : goal.returns-in_err-bit_time-clause-numbers

@@ -13,8 +13,8 @@ pub loop-place-init : goal.loop-place-init
 loop-place-init g c =
     let places = c.deref-place-items in
     record {
-      decided = no_places g.C.Core c.args.roster.now.quiet c.args.moment c.args.seats.now c.args.list.now.items places.result.now c.requires.at.lawful c.requires.at.follow;
-      within = places_within c.args.seats.now places.result.now (subst (IsByNumber (map number_of c.args.seats.now)) (sym places.ensures.value) c.requires.roster.order);
+      decided = no_places g.C.Core c.args.send_order.now.quiet c.args.moment c.args.seats.now c.args.list.now.items places.result.now c.requires.at.lawful c.requires.at.follow;
+      within = places_within c.args.seats.now places.result.now (subst (IsByNumber (map number_of c.args.seats.now)) (sym places.ensures.value) c.requires.send_order.order);
       grown = grown_none c.args.moment c.args.list.now.items;
     }
 
@@ -25,7 +25,7 @@ decide_one-requires-clause-number g c =
     let p = get_or c.deref-place-items.result.now i 0 in
     let ys = c.loop-place.seats in
     let within : p < length ys = c.loop-place.invariant.within i (omega arith) in
-    number_in c.args.seats.now ys p (get_or ys p c.index-seats-place.result) c.requires.roster.ranges so.stations so.same_length (slice_get-get_or ys p c.index-seats-place.result within)
+    number_in c.args.seats.now ys p (get_or ys p c.index-seats-place.result) c.requires.send_order.ranges so.stations so.same_length (slice_get-get_or ys p c.index-seats-place.result within)
 
 pub loop-place-preserved : goal.loop-place-preserved
 loop-place-preserved g c =
@@ -37,9 +37,9 @@ loop-place-preserved g c =
     let x = get_or ys p c.index-seats-place.result in
     let y = c.decide_one.new.seat in
     let within : p < length ys = c.loop-place.invariant.within i (omega arith) in
-    let by = subst (IsByNumber (map number_of xs)) (sym c.deref-place-items.ensures.value) c.requires.roster.order in
+    let by = subst (IsByNumber (map number_of xs)) (sym c.deref-place-items.ensures.value) c.requires.send_order.order in
     record {
-      decided = one_place g.C.Core c.args.roster.now.quiet c.args.moment xs ys c.loop-place.list.items places i p x y by c.loop-place.invariant.decided
+      decided = one_place g.C.Core c.args.send_order.now.quiet c.args.moment xs ys c.loop-place.list.items places i p x y by c.loop-place.invariant.decided
           (slice_get-get_or places i 0 (omega arith)) (slice_get-get_or ys p c.index-seats-place.result within) c.in_ok-begun.begun c.in_ok-begun.ensures.begun c.note.new.list.items c.in_ok-note.ensures;
       within = λ k h. let w = c.loop-place.invariant.within k h in omega (arith, length-set ys p y, w);
       grown = grown_one g.C.Core c.args.moment c.args.list.now.items c.loop-place.list.items c.note.new.list.items x y c.in_ok-begun.begun c.loop-place.invariant.grown c.in_ok-begun.ensures.begun c.in_ok-note.ensures;
@@ -51,12 +51,12 @@ returns-clause-decided g c =
     let xs = c.args.seats.now in
     let ys = c.loop-place.seats in
     let so = c.loop-place.invariant in
-    let by = subst (IsByNumber (map number_of xs)) (sym c.deref-place-items.ensures.value) c.requires.roster.order in
-    let all = all_places g.C.Core c.args.roster.now.quiet c.args.moment xs ys c.loop-place.list.items places c.loop-place.place-index by so.decided c.loop-place-test.false in
+    let by = subst (IsByNumber (map number_of xs)) (sym c.deref-place-items.ensures.value) c.requires.send_order.order in
+    let all = all_places g.C.Core c.args.send_order.now.quiet c.args.moment xs ys c.loop-place.list.items places c.loop-place.place-index by so.decided c.loop-place-test.false in
     record {
       stations = so.decided.so.stations;
       grown = so.grown;
-      lawful = subst (λ ss. IsLawfulTo c.args.roster.now.quiet ss (c.args.moment + 1) 0 c.loop-place.list.items) (sym so.decided.so.stations) all.0;
+      lawful = subst (λ ss. IsLawfulTo c.args.send_order.now.quiet ss (c.args.moment + 1) 0 c.loop-place.list.items) (sym so.decided.so.stations) all.0;
       follow = all.1;
       room = so.decided.so.room (2 ^ 62 - c.args.moment) c.requires.at.room;
     }

@@ -5,7 +5,7 @@ use Rattle.bus_medium.proofs.deciding.decide_all.Given as goal
 
 abbrev pub invariant-loop-place : goal.invariant-loop-place
 invariant-loop-place g l = record {
-  decided : DecidedPlaces g.C.Core l.roster.quiet l.moment l.initial.seats l.seats l.list.items l.place-items l.place-index;
+  decided : DecidedPlaces g.C.Core l.send_order.quiet l.moment l.initial.seats l.seats l.list.items l.place-items l.place-index;
   within : (k : ℕ) → k < length l.place-items → get_or l.place-items k 0 < length l.seats;
   grown : Grown l.moment l.initial.list.items l.list.items;
 }

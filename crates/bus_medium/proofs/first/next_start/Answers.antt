@@ -7,6 +7,6 @@ returns-then-first-clause-alone c =
     let f = c.first_ready-first in
     let r = c.first_ready-first.result in
     let low : c.args.quiet + c.args.moment ≤ c.first_ready-first.result.ready = c.if-first-start.false in
-    subst (λ v. IsAlone v (clocks_of c.args.heard.now.ended c.args.watches.now) r.place)
+    subst (λ v. IsAlone v (clocks_of c.args.idle.now.ended c.args.all_timers.now) r.place)
     (let h : c.first_ready-first.result.ready ≡ c.args.quiet + (c.first_ready-first.result.ready - c.args.quiet) = omega arith in h)
     (f.ensures.alone c.if-first.true)

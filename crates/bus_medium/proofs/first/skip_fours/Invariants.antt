@@ -5,9 +5,9 @@ use Rattle.bus_medium.proofs.first.skip_fours.Given as goal
 abbrev pub invariant-loop-place : goal.invariant-loop-place
 invariant-loop-place l = record {
   low : l.from ≤ l.place;
-  high : l.place ≤ length l.watches;
-  skipped : AreLater l.most l.behind l.watches l.from l.place;
+  high : l.place ≤ length l.all_timers;
+  skipped : AreLater l.most l.behind l.all_timers l.from l.place;
 }
 
 abbrev pub decreases-loop-place : goal.decreases-loop-place
-decreases-loop-place l = length l.watches - l.place
+decreases-loop-place l = length l.all_timers - l.place

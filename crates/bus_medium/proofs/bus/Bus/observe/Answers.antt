@@ -2,12 +2,12 @@ use Rattle.std.proofs.Common.{◌≡◌, List, [], length, map, ap, sym, ◌∙�
 use Rattle.std.specs.Prelude.{IfOk}
 use Rattle.std.proofs.lemmas.List.{with_items_is, length-map}
 use Rattle.bus_medium.specs.Buses.{Seat, number_of, StandsAt}
-use Rattle.bus_medium.specs.Orders.{IsRoster}
+use Rattle.bus_medium.specs.Orders.{IsSendOrder}
 use Rattle.bus_medium.proofs.bus.Bus.observe.Goals as goal
 
 pub observe_all-requires-clause-stands : goal.observe_all-requires-clause-stands
 observe_all-requires-clause-stands g c =
-    let q = c.self.inside.roster.quiet in
+    let q = c.self.inside.send_order.quiet in
     let stands : StandsAt g.C.Core (record { quiet = q; seats = c.self.inside.seats.items }) [] 0 = subst (λ b. StandsAt g.C.Core b [] 0) (sym c.self.view_is) c.requires.stands in
     subst (λ seats. StandsAt g.C.Core (record { quiet = q; seats = seats }) [] 0) (sym c.deref_mut.ensures.value) stands
 
@@ -24,13 +24,13 @@ invariant_of-self g c =
     let numbers = c.observe_all.ensures.numbers in
     let long : length new ≡ old.len = same_length new c.deref_mut.result.now numbers ∙ c.deref_mut.ensures.len in
     let kept : map number_of old.items ≡ map number_of new = ap (map number_of) (sym c.deref_mut.ensures.value) ∙ sym numbers in
-    let roster : IsRoster (map number_of old.items) c.self.inside.roster.places.items = c.self.invariant in
-    subst (λ seats. IsRoster (map number_of seats) c.self.inside.roster.places.items) (sym (with_items_is old new long))
-    (subst (λ ns. IsRoster ns c.self.inside.roster.places.items) kept roster)
+    let send_order : IsSendOrder (map number_of old.items) c.self.inside.send_order.places.items = c.self.invariant in
+    subst (λ seats. IsSendOrder (map number_of seats) c.self.inside.send_order.places.items) (sym (with_items_is old new long))
+    (subst (λ ns. IsSendOrder ns c.self.inside.send_order.places.items) kept send_order)
 
 pub returns-clause-stands : goal.returns-clause-stands
 returns-clause-stands g c =
     let new = c.observe_all.new.seats in
     let old = c.self.inside.seats in
     let long : length new ≡ old.len = same_length new c.deref_mut.result.now c.observe_all.ensures.numbers ∙ c.deref_mut.ensures.len in
-    subst (λ seats. IfOk c.observe_all.result (λ list. StandsAt g.C.Core (record { quiet = c.self.inside.roster.quiet; seats = seats }) list.items c.args.horizon)) (sym (with_items_is old new long)) c.observe_all.ensures.stands
+    subst (λ seats. IfOk c.observe_all.result (λ list. StandsAt g.C.Core (record { quiet = c.self.inside.send_order.quiet; seats = seats }) list.items c.args.horizon)) (sym (with_items_is old new long)) c.observe_all.ensures.stands

@@ -1,8 +1,8 @@
-//! Watches that need not be told of each message.
+//! Timers that need not be told of each message.
 ghost use Rattle.std.specs.Prelude.{◌≡◌, ◌+◌, ◌^◌, ◌<◌, map, IfOk};
 ghost use Rattle.bus_audit.specs.inside.Watches as sums;
 ghost use Rattle.bus_audit.specs.inside.Watches.{IsLow};
-ghost use Rattle.bus_audit.specs.inside.Keeping.{keep_of, soon_of, watch_of, gap_behind};
+ghost use Rattle.bus_audit.specs.inside.Keeping.{lazy_of, soon_of, watch_of, gap_behind};
 
 use crate::watch::{Watch, begun, pair, ready};
 use std::alloc::{AllocError, Global};
@@ -20,7 +20,7 @@ pub struct Heard {
 
 /// The watch of a sender, but for the place from which its terminal gap counts: that follows from what all have heard.
 #[derive(Clone, Copy, Debug, PartialEq, Eq)]
-pub struct Keep {
+pub struct LazyTimers {
     /// The watch, as it was when its sender began last.
     pub watch: Watch,
     /// The place at which its sender began last, or 0 where it hasn't.
@@ -46,11 +46,11 @@ fn soon_of(watch: Watch) -> u64
 }
 
 /// What is kept of a sender at the settled start.
-fn settled_keep(watch: Watch) -> Keep
+fn settled_lazy(watch: Watch) -> LazyTimers
     requires { IsLow watch }
-    ensures { result ≡ keep_of watch }
+    ensures { result ≡ lazy_of watch }
 {
-    Keep {
+    LazyTimers {
         watch,
         last: 0,
         behind: u64::from(watch.timing.sg),
@@ -58,7 +58,7 @@ fn settled_keep(watch: Watch) -> Keep
     }
 }
 
-impl Keep {
+impl LazyTimers {
     /// The watch, where this is what all have heard.
     pub fn watch(&self, heard: Heard) -> Watch
         requires { IsLow (watch_of heard self.now) }
@@ -93,7 +93,7 @@ impl Keep {
     }
 
     /// What is kept when its sender begins a message at this place.
-    pub fn begun(&self, heard: Heard, place: u64) -> Keep
+    pub fn begun(&self, heard: Heard, place: u64) -> LazyTimers
         requires low { IsLow (watch_of heard self.now) }
         requires place { place < 2 ^ 41 }
         ensures watch { result.watch ≡ sums.begun place (watch_of heard self.now) }
@@ -102,7 +102,7 @@ impl Keep {
         ensures soon { result.soon ≡ soon_of result.watch }
     {
         let watch = begun(place, self.watch(heard));
-        Keep {
+        LazyTimers {
             watch,
             last: place,
             behind: u64::from(watch.timing.sg),
@@ -112,13 +112,13 @@ impl Keep {
 }
 
 /// What is kept of all senders at the settled start.
-pub fn keep_all(alloc: Global, watches: &[Watch]) -> Result<Vec<Keep>, AllocError>
+pub fn lazy_all(alloc: Global, watches: &[Watch]) -> Result<Vec<LazyTimers>, AllocError>
     requires { sums.AreLow watches.now }
-    ensures { IfOk result (λ keeps. keeps.items ≡ map keep_of watches.now) }
+    ensures { IfOk result (λ timers. timers.items ≡ map lazy_of watches.now) }
 {
-    let mut keeps = Vec::with_capacity(alloc, watches.len())?;
+    let mut timers = Vec::with_capacity(alloc, watches.len())?;
     for watch in watches {
-        keeps.push(settled_keep(*watch))?;
+        timers.push(settled_lazy(*watch))?;
     }
-    Ok(keeps)
+    Ok(timers)
 }

@@ -10,9 +10,9 @@ use std::cmp::max;
 /// The place of a moment that never comes.
 pub const NEVER: u64 = u64::MAX;
 
-/// What all senders of a bus have heard alike.
+/// Since when the bus is idle, which all senders heard alike, and the shortest of their synchronization gaps.
 #[derive(Clone, Copy, Debug)]
-pub struct Heard {
+pub struct BusIdle {
     /// The place at which the bus became quiet for the last time: 0 before anything was sent.
     pub ended: u64,
     /// No sender's synchronization gap is shorter, in bit times.
@@ -23,7 +23,7 @@ pub struct Heard {
 /// starts, and at the horizon; these numbers, and what all have heard, tell when that is. A place is a moment counted
 /// from the beginning of the past.
 #[derive(Clone, Copy, Debug)]
-pub struct Watch {
+pub struct Timers {
     /// The synchronization gap, in bit times.
     pub sg: u32,
     /// The terminal gap, in bit times.
@@ -50,8 +50,8 @@ fn due_at<C: Core>(seat: &Seat<C>, place: u64) -> u64
     }
 }
 
-/// The watch of a sender at the settled start, behind so many quiet bit times.
-pub fn settled_watch<C: Core>(seat: &Seat<C>, quiet: u32) -> Watch
+/// The timers of a sender at the settled start, behind so many quiet bit times.
+pub fn settled_timers<C: Core>(seat: &Seat<C>, quiet: u32) -> Timers
     ensures sg { result.sg ≡ seat.now.timing.sg }
     ensures tg { result.tg ≡ seat.now.timing.tg }
     ensures told { result.told ≡ quiet }
@@ -63,7 +63,7 @@ pub fn settled_watch<C: Core>(seat: &Seat<C>, quiet: u32) -> Watch
     let timing = seat.timing;
     let due = due_at(seat, timing.quiet as u64 + timing.due as u64);
     let behind = timing.sg as u64;
-    Watch {
+    Timers {
         sg: timing.sg,
         tg: timing.tg,
         told: quiet as u64,
@@ -73,8 +73,8 @@ pub fn settled_watch<C: Core>(seat: &Seat<C>, quiet: u32) -> Watch
     }
 }
 
-/// The watch of a sender that starts at the place `now`, where its core has been told all.
-pub fn begun_watch<C: Core>(seat: &Seat<C>, now: u64, ended: u64) -> Watch
+/// The timers of a sender that starts at the place `now`, where its core has been told all.
+pub fn begun_timers<C: Core>(seat: &Seat<C>, now: u64, ended: u64) -> Timers
     requires small { now < 2 ^ 62 }
     requires ended { ended ≤ now }
     ensures sg { result.sg ≡ seat.now.timing.sg }
@@ -86,7 +86,7 @@ pub fn begun_watch<C: Core>(seat: &Seat<C>, now: u64, ended: u64) -> Watch
     let timing = seat.timing;
     let due = due_at(seat, now + timing.ti as u64);
     let behind = now + timing.sg as u64 - ended;
-    Watch {
+    Timers {
         sg: timing.sg,
         tg: timing.tg,
         told: now,
@@ -96,7 +96,7 @@ pub fn begun_watch<C: Core>(seat: &Seat<C>, now: u64, ended: u64) -> Watch
     }
 }
 
-impl Watch {
+impl Timers {
     /// What was heard since the core was told, up to the place `now`.
     pub fn history(&self, ended: u64, now: u64) -> History
         requires told { self.now.told ≤ now }
