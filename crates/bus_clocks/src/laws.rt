@@ -1,4 +1,4 @@
-//! Laws of the definitions, each the contract of a function that does nothing.
+//! Laws of buses whose clocks aren't exact, each the contract of a function that does nothing.
 ghost use Rattle.bus_clocks.specs.Apart.{ClearIsHeardApart};
 ghost use Rattle.bus_clocks.specs.Existing.{CoursesExist, OneCourse};
 ghost use Rattle.bus_clocks.specs.Faults.{CoursesGoOn, FaultsAreCourses, FaultsSettle};

@@ -1,4 +1,4 @@
-//! Laws of the definitions, each the contract of a function that does nothing.
+//! Laws of periodic buses whose clocks aren't exact, each the contract of a function that does nothing.
 ghost use Rattle.bus_drift.specs.Examples.{ThereAreSuch};
 ghost use Rattle.bus_drift.specs.InTurn.{TurnsGoOn};
 ghost use Rattle.bus_drift.specs.Leading.{OffsetsAreLeast, OneLeads};

@@ -1,4 +1,4 @@
-//! Laws of the definitions, each the contract of a function that does nothing.
+//! Laws of what is found in a recording, each the contract of a function that does nothing.
 ghost use Rattle.bus_recording.specs.Alarms.{CourseIsClean, HeardCourseIsClean};
 ghost use Rattle.bus_recording.specs.Alarms.{HeardIsClean, HeardIsRecorded, PlacedIsClean, PlacedIsRecorded};
 ghost use Rattle.bus_recording.specs.Amounts.{GapIsNear, GapIsTrue, IntervalIsExact, IntervalIsTrue, LateIsTrue, NextAreInRow, SyncIsTrue};

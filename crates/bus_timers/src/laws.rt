@@ -1,4 +1,4 @@
-//! Laws of the definitions, each the contract of a function that does nothing.
+//! Laws of when a terminal may start, each the contract of a function that does nothing.
 ghost use Rattle.bus_timers.specs.MayStartTest.{TestDecides};
 ghost use Rattle.bus_timers.specs.GapLaws.{SettledPlace, StartedPlace, QuietPlace, CarrierPlace, WaitingCarrierPlace, OnePlace};
 ghost use Rattle.bus_timers.specs.GapLaws.{QuietsPlace, CarriersPlace, WaitingCarriersPlace, PlaceDecides};
