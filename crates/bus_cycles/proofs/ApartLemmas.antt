@@ -4,7 +4,8 @@ use Rattle.std.proofs.lemmas.Bool.{cases_lt}
 use Rattle.bus_shapes.specs.declared.sent.Sent.{Sent}
 use Rattle.bus_table.specs.inside.Facts.{TableFacts}
 use Rattle.bus_table.proofs.ValidLaws.{valid_facts}
-use Rattle.bus_cycles.specs.Laws.{BreachHidesNone, FaultHidesNone, SlotsAreKept, ThreeLieApart}
+use Rattle.bus_cycles.specs.Laws.{SlotsAreKept, ThreeLieApart}
+use Rattle.bus_cycles.specs.MarkLaws.{BreachHidesNone, FaultHidesNone}
 use Rattle.bus_cycles.specs.Pages.{Page, page_of, row_height_of, top_of}
 use Rattle.bus_cycles.specs.RowTexts.{below_top, height_of, shade}
 use Rattle.bus_cycles.proofs.LaneLemmas.{slot_is}

@@ -87,63 +87,63 @@ whole_below ti m b q some is low =
     mul-le-mul_right' a b c h = mul-le-mul_right c h
 
 -- the same, of a moment that is counted from before the settled start
-record IsAfter (lift b : ℕ) (sent : Sent) : Type 0 where
-  moment : b ≤ sent.moment + lift
-  before : b < sent.before + lift
+record IsAfter (origin_offset b : ℕ) (sent : Sent) : Type 0 where
+  moment : b ≤ sent.moment + origin_offset
+  before : b < sent.before + origin_offset
   some : 0 < sent.before
 
 -- a moment at which a row may begin: in periodic mode the beginning of an interval
 abbrev IsStart : Mode → Cycle → ℕ → Type 0
-IsStart Periodic cycle b = (q : ℕ) × (b ≡ q * cycle.ti + cycle.lift)
+IsStart Periodic cycle b = (q : ℕ) × (b ≡ q * cycle.ti + cycle.origin_offset)
 IsStart Aperiodic cycle b = Unit {0}
 
 starts : (mode : Mode) (cycle : Cycle) (sent : Sent) → IsStart mode cycle (begin_in mode cycle sent)
 starts Periodic cycle sent = (sent.moment / cycle.ti, refl)
 starts Aperiodic cycle sent = tt
 
-begins_below : (mode : Mode) (cycle : Cycle) (sent : Sent) → begin_in mode cycle sent ≤ sent.moment + cycle.lift
+begins_below : (mode : Mode) (cycle : Cycle) (sent : Sent) → begin_in mode cycle sent ≤ sent.moment + cycle.origin_offset
 begins_below Periodic cycle sent = (let low : interval_of cycle.ti sent.moment ≤ sent.moment = div-mul-le_self sent.moment cycle.ti in omega arith)
-begins_below Aperiodic cycle sent = within (sent.moment + cycle.lift) (max (ended_from cycle sent) (sent.moment + cycle.lift - cycle.lead)) where
+begins_below Aperiodic cycle sent = within (sent.moment + cycle.origin_offset) (max (ended_from cycle sent) (sent.moment + cycle.origin_offset - cycle.lead)) where
   within : (m n : ℕ) → min m n ≤ m
   within m n = omega arith
 
 between : (b m e n : ℕ) → b < m → b < e → b < min m (max e n)
 between b m e n h k = omega arith
 
-ended_is : (cycle : Cycle) (sent : Sent) → 0 < sent.before → ended_from cycle sent ≡ sent.before + cycle.lift
-ended_is cycle sent some = ap (λ b. cond b 0 (sent.before + cycle.lift)) (ne_eqb sent.before 0 (λ e. omega arith))
+ended_is : (cycle : Cycle) (sent : Sent) → 0 < sent.before → ended_from cycle sent ≡ sent.before + cycle.origin_offset
+ended_is cycle sent some = ap (λ b. cond b 0 (sent.before + cycle.origin_offset)) (ne_eqb sent.before 0 (λ e. omega arith))
 
-new_later : (mode : Mode) (cycle : Cycle) (b : ℕ) (sent : Sent) → 0 < cycle.ti → 0 < cycle.sg → IsStart mode cycle b → IsAfter cycle.lift b sent
+new_later : (mode : Mode) (cycle : Cycle) (b : ℕ) (sent : Sent) → 0 < cycle.ti → 0 < cycle.sg → IsStart mode cycle b → IsAfter cycle.origin_offset b sent
     → is_new_in mode cycle b sent ≡ true → b < begin_in mode cycle sent
 new_later Periodic cycle b sent some gap start after new =
     let q : ℕ = start.0 in
-    let is : b ≡ q * cycle.ti + cycle.lift = start.1 in
-    let late : b ≤ sent.moment + cycle.lift = after.moment in
+    let is : b ≡ q * cycle.ti + cycle.origin_offset = start.1 in
+    let late : b ≤ sent.moment + cycle.origin_offset = after.moment in
     let from : q * cycle.ti ≤ interval_of cycle.ti sent.moment =
-    whole_below cycle.ti sent.moment (q * cycle.ti) q some refl (drop_lift b (q * cycle.ti) cycle.lift sent.moment is late) in
-    let other : interval_of cycle.ti sent.moment + cycle.lift ≢ b =
-    λ e. true≢false (sym new ∙ ap not (eq-eqb (interval_of cycle.ti sent.moment + cycle.lift) b e)) in
-    further b (q * cycle.ti) cycle.lift (interval_of cycle.ti sent.moment) is from other
+    whole_below cycle.ti sent.moment (q * cycle.ti) q some refl (drop_origin_offset b (q * cycle.ti) cycle.origin_offset sent.moment is late) in
+    let other : interval_of cycle.ti sent.moment + cycle.origin_offset ≢ b =
+    λ e. true≢false (sym new ∙ ap not (eq-eqb (interval_of cycle.ti sent.moment + cycle.origin_offset) b e)) in
+    further b (q * cycle.ti) cycle.origin_offset (interval_of cycle.ti sent.moment) is from other
   where
-    drop_lift : (b n lift m : ℕ) → b ≡ n + lift → b ≤ m + lift → n ≤ m
-    drop_lift b n lift m h k = omega arith
+    drop_origin_offset : (b n origin_offset m : ℕ) → b ≡ n + origin_offset → b ≤ m + origin_offset → n ≤ m
+    drop_origin_offset b n origin_offset m h k = omega arith
 
-    further : (b n lift m : ℕ) → b ≡ n + lift → n ≤ m → m + lift ≢ b → b < m + lift
-    further b n lift m h k l = omega (arith, l)
+    further : (b n origin_offset m : ℕ) → b ≡ n + origin_offset → n ≤ m → m + origin_offset ≢ b → b < m + origin_offset
+    further b n origin_offset m h k l = omega (arith, l)
 new_later Aperiodic cycle b sent some gap start after new =
     let wide : cycle.sg ≤ sent.moment - sent.before = leb-true cycle.sg (sent.moment - sent.before) new in
-    let before : b < sent.before + cycle.lift = after.before in
-    let moment : b < sent.moment + cycle.lift = omega arith in
-    between b (sent.moment + cycle.lift) (ended_from cycle sent) (sent.moment + cycle.lift - cycle.lead) moment
+    let before : b < sent.before + cycle.origin_offset = after.before in
+    let moment : b < sent.moment + cycle.origin_offset = omega arith in
+    between b (sent.moment + cycle.origin_offset) (ended_from cycle sent) (sent.moment + cycle.origin_offset - cycle.lead) moment
     (subst (λ n. b < n) (sym (ended_is cycle sent after.some)) before)
 
 -- ---- rows
-weaker : (lift : ℕ) (xs : List Sent) (m b : ℕ) → b ≤ m + lift → AllByRecursion (IsBehind m) xs → AllByRecursion (IsAfter lift b) xs
-weaker lift [] m b low all = tt
-weaker lift (x ∷ xs) m b low all =
+weaker : (origin_offset : ℕ) (xs : List Sent) (m b : ℕ) → b ≤ m + origin_offset → AllByRecursion (IsBehind m) xs → AllByRecursion (IsAfter origin_offset b) xs
+weaker origin_offset [] m b low all = tt
+weaker origin_offset (x ∷ xs) m b low all =
     let late : m ≤ x.moment = all.0.moment in
     let behind : m < x.before = all.0.before in
-    (record { moment = omega arith; before = omega arith; some = omega arith }, weaker lift xs m b low all.1)
+    (record { moment = omega arith; before = omega arith; some = omega arith }, weaker origin_offset xs m b low all.1)
 
 later_step : (cycle : Cycle) (row : Row) (x : Sent) (xs : List Sent) (b : ℕ) (t : Bool) → b < row.begin → is_new cycle row.begin x ≡ t
     → (is_new cycle row.begin x ≡ true → row.begin < begin_of cycle x)
@@ -154,12 +154,12 @@ later_step cycle row x xs b true low new later next more = let further : row.beg
 later_step cycle row x xs b false low new later next more = more
 
 later_rows : (cycle : Cycle) (row : Row) (xs : List Sent) (b : ℕ) → 0 < cycle.ti → 0 < cycle.sg → IsStart cycle.mode cycle row.begin → b < row.begin
-    → AllByRecursion (IsAfter cycle.lift row.begin) xs → Chain xs → AllByRecursion (λ (r : Row). b < r.begin) (rows_from cycle row xs)
+    → AllByRecursion (IsAfter cycle.origin_offset row.begin) xs → Chain xs → AllByRecursion (λ (r : Row). b < r.begin) (rows_from cycle row xs)
 later_rows cycle row [] b some gap start low behind h = (low, tt)
 later_rows cycle row (x ∷ xs) b some gap start low behind h =
     later_step cycle row x xs b (is_new cycle row.begin x) low refl (new_later cycle.mode cycle row.begin x some gap start behind.0)
     (λ l. later_rows cycle (row_at cycle (row.place + 1) x) xs b some gap (starts cycle.mode cycle x) l
-    (weaker cycle.lift xs x.moment (begin_of cycle x) (begins_below cycle.mode cycle x) h.0) h.1)
+    (weaker cycle.origin_offset xs x.moment (begin_of cycle x) (begins_below cycle.mode cycle x) h.0) h.1)
     (later_rows cycle (with_sent row x) xs b some gap start low behind.1 h.1)
 
 ascend_step : (cycle : Cycle) (row : Row) (x : Sent) (xs : List Sent) (t : Bool) → is_new cycle row.begin x ≡ t
@@ -170,10 +170,10 @@ ascend_step cycle row x xs true new later next more = (later new, next)
 ascend_step cycle row x xs false new later next more = more
 
 ascend_from : (cycle : Cycle) (row : Row) (xs : List Sent) → 0 < cycle.ti → 0 < cycle.sg → IsStart cycle.mode cycle row.begin
-    → AllByRecursion (IsAfter cycle.lift row.begin) xs → Chain xs → Ascend (rows_from cycle row xs)
+    → AllByRecursion (IsAfter cycle.origin_offset row.begin) xs → Chain xs → Ascend (rows_from cycle row xs)
 ascend_from cycle row [] some gap start behind h = (tt, tt)
 ascend_from cycle row (x ∷ xs) some gap start behind h =
-    let next = weaker cycle.lift xs x.moment (begin_of cycle x) (begins_below cycle.mode cycle x) h.0 in
+    let next = weaker cycle.origin_offset xs x.moment (begin_of cycle x) (begins_below cycle.mode cycle x) h.0 in
     ascend_step cycle row x xs (is_new cycle row.begin x) refl
     (λ new. later_rows cycle (row_at cycle (row.place + 1) x) xs row.begin some gap (starts cycle.mode cycle x)
     (new_later cycle.mode cycle row.begin x some gap start behind.0 new) next h.1)
@@ -184,7 +184,7 @@ ascend_of : (cycle : Cycle) (xs : List Sent) → 0 < cycle.ti → 0 < cycle.sg �
 ascend_of cycle [] some gap h = tt
 ascend_of cycle (x ∷ xs) some gap h =
     ascend_from cycle (row_at cycle 0 x) xs some gap (starts cycle.mode cycle x)
-    (weaker cycle.lift xs x.moment (begin_of cycle x) (begins_below cycle.mode cycle x) h.0) h.1
+    (weaker cycle.origin_offset xs x.moment (begin_of cycle x) (begins_below cycle.mode cycle x) h.0) h.1
 
 pub rows_ascend : RowsAscend
 rows_ascend table window trace valid is =

@@ -7,13 +7,14 @@ use Rattle.bus_strings.specs.Members.{In}
 use Rattle.bus_table.specs.declared.mode.Mode.{Mode}
 use Rattle.bus_table.specs.declared.mode.Mode.TheVariants.{Aperiodic, Periodic}
 use Rattle.bus_table.proofs.ValidLaws.{valid_facts}
-use Rattle.bus_cycles.specs.Laws.{Ascend, BreachIsAtItsMoment, TheLastRowIsMarked}
+use Rattle.bus_cycles.specs.Laws.{Ascend}
+use Rattle.bus_cycles.specs.MarkLaws.{BreachIsAtItsMoment, TheLastRowIsMarked}
 use Rattle.bus_cycles.specs.Rows.{Cycle, Extent, Row, cycle_of, extent_of, interval_of, rows, takes, takes_in}
 use Rattle.bus_cycles.specs.Cuts.{Seen}
 use Rattle.bus_cycles.specs.Sents.{shown}
 use Rattle.bus_cycles.specs.Surveys.{Survey, is_drawn, nothing, reach_of, told_of, with_row}
 use Rattle.bus_cycles.proofs.AscendLemmas.{rows_ascend}
-use Rattle.bus_cycles.proofs.RowLemmas.{no_lift, within_interval}
+use Rattle.bus_cycles.proofs.RowLemmas.{no_origin_offset, within_interval}
 
 -- ---- the row that is marked is one of the rows, and takes the breach
 pub record IsTaken (cycle : Cycle) (moment : ℕ) (list : List Row) (extent : Extent) : Type 0 where
@@ -40,32 +41,32 @@ taken_from cycle seen moment (r ∷ rs) survey extent e =
 
 -- ---- what a row takes
 pub record IsTaking (mode : Mode) (cycle : Cycle) (extent : Extent) (moment : ℕ) : Type 0 where
-  pub begun : extent.begin ≤ moment + cycle.lift
-  pub within : mode ≡ Periodic → moment + cycle.lift < extent.begin + cycle.ti
+  pub begun : extent.begin ≤ moment + cycle.origin_offset
+  pub within : mode ≡ Periodic → moment + cycle.origin_offset < extent.begin + cycle.ti
 
 taking : (mode : Mode) (cycle : Cycle) (extent : Extent) (moment : ℕ) → 0 < cycle.ti → takes_in mode cycle extent moment ≡ true
     → IsTaking mode cycle extent moment
 taking Periodic cycle extent moment some e =
-    let at : interval_of cycle.ti moment + cycle.lift ≡ extent.begin = eqb-true (interval_of cycle.ti moment + cycle.lift) extent.begin e in
+    let at : interval_of cycle.ti moment + cycle.origin_offset ≡ extent.begin = eqb-true (interval_of cycle.ti moment + cycle.origin_offset) extent.begin e in
     let parts = within_interval cycle.ti moment some in
     let low : interval_of cycle.ti moment ≤ moment = parts.0 in
     let high : moment < interval_of cycle.ti moment + cycle.ti = parts.1 in
-    record { begun = begins (interval_of cycle.ti moment) cycle.lift extent.begin moment at low; within = λ h. ends (interval_of cycle.ti moment) cycle.lift extent.begin moment cycle.ti at high }
+    record { begun = begins (interval_of cycle.ti moment) cycle.origin_offset extent.begin moment at low; within = λ h. ends (interval_of cycle.ti moment) cycle.origin_offset extent.begin moment cycle.ti at high }
   where
-    begins : (a lift b m : ℕ) → a + lift ≡ b → a ≤ m → b ≤ m + lift
-    begins a lift b m h k = omega arith
+    begins : (a origin_offset b m : ℕ) → a + origin_offset ≡ b → a ≤ m → b ≤ m + origin_offset
+    begins a origin_offset b m h k = omega arith
 
-    ends : (a lift b m ti : ℕ) → a + lift ≡ b → m < a + ti → m + lift < b + ti
-    ends a lift b m ti h k = omega arith
+    ends : (a origin_offset b m ti : ℕ) → a + origin_offset ≡ b → m < a + ti → m + origin_offset < b + ti
+    ends a origin_offset b m ti h k = omega arith
 taking Aperiodic cycle extent moment some e =
-    record { begun = leb-true extent.begin (moment + cycle.lift) e; within = λ h. absurd (cc) }
+    record { begun = leb-true extent.begin (moment + cycle.origin_offset) e; within = λ h. absurd (cc) }
 
 -- ---- the scale holds it
-held_by : (lift : ℕ) (survey : Survey) (moment : ℕ) (extent : Extent) → survey.marked ≡ Some extent → is_drawn extent.place ≡ true
-    → moment + lift - extent.begin ≤ max survey.longest (reach_of lift (Some moment) survey.marked)
-held_by lift survey moment extent marked drawn =
-    let reach : reach_of lift (Some moment) survey.marked ≡ moment + lift - extent.begin =
-    ap (reach_of lift (Some moment)) marked ∙ ap (λ b. cond b (moment + lift - extent.begin) 0) drawn in
+held_by : (origin_offset : ℕ) (survey : Survey) (moment : ℕ) (extent : Extent) → survey.marked ≡ Some extent → is_drawn extent.place ≡ true
+    → moment + origin_offset - extent.begin ≤ max survey.longest (reach_of origin_offset (Some moment) survey.marked)
+held_by origin_offset survey moment extent marked drawn =
+    let reach : reach_of origin_offset (Some moment) survey.marked ≡ moment + origin_offset - extent.begin =
+    ap (reach_of origin_offset (Some moment)) marked ∙ ap (λ b. cond b (moment + origin_offset - extent.begin) 0) drawn in
     omega arith
 
 pub at_its_moment : BreachIsAtItsMoment
@@ -84,8 +85,8 @@ at_its_moment table window list seen moment extent valid marked drawn =
             one = taken.one;
             extent_is = taken.extent_is;
             begun = is.begun;
-            held = held_by cycle.lift told moment extent marked drawn;
-            within = λ h. (let none : cycle.lift ≡ 0 = no_lift table h in let high : moment + cycle.lift < extent.begin + cycle.ti = is.within h in omega arith);
+            held = held_by cycle.origin_offset told moment extent marked drawn;
+            within = λ h. (let none : cycle.origin_offset ≡ 0 = no_origin_offset table h in let high : moment + cycle.origin_offset < extent.begin + cycle.ti = is.within h in omega arith);
           }
     ]
 

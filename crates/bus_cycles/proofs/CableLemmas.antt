@@ -2,7 +2,7 @@
 use Rattle.std.proofs.Common.{◌≡◌, List, [], ◌∷◌, map, fold, None, refl}
 use Rattle.bus_shapes.specs.declared.sent.Sent.{Sent}
 use Rattle.bus_cycles.specs.Cuts.{Seen}
-use Rattle.bus_cycles.specs.Laws.{CableIsUnmarked}
+use Rattle.bus_cycles.specs.MarkLaws.{CableIsUnmarked}
 use Rattle.bus_cycles.specs.Rows.{Cycle, Extent, extent_of, rows_of}
 use Rattle.bus_cycles.specs.Surveys.{Survey, nothing, told_of, with_row}
 

@@ -46,10 +46,10 @@ in_order front back later other sent h =
 left_rises : (page : Page) (begin : ℕ) (other sent : Sent) → PlacesRise → IsScale page.scale → other.moment ≤ sent.moment
     → left_of page begin other ≤ left_of page begin sent
 left_rises page begin other sent rise is order =
-    let lift : ℕ = page.cycle.lift in
-    let places : place page.scale (other.moment + lift - begin) ≤ place page.scale (sent.moment + lift - begin) =
-    rise page.scale (other.moment + lift - begin) (sent.moment + lift - begin) is (omega arith) in
-    tens (place page.scale (other.moment + lift - begin)) (place page.scale (sent.moment + lift - begin)) places
+    let origin_offset : ℕ = page.cycle.origin_offset in
+    let places : place page.scale (other.moment + origin_offset - begin) ≤ place page.scale (sent.moment + origin_offset - begin) =
+    rise page.scale (other.moment + origin_offset - begin) (sent.moment + origin_offset - begin) is (omega arith) in
+    tens (place page.scale (other.moment + origin_offset - begin)) (place page.scale (sent.moment + origin_offset - begin)) places
   where
     tens : (a b : ℕ) → a ≤ b → a / 10 * 10 ≤ b / 10 * 10
     tens a b h = omega arith

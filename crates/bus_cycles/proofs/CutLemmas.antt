@@ -67,8 +67,8 @@ open_hides_none rise within table survey counts row sent is one order =
     let last : ℕ = max (end_of_all row.sents) page.seen.to in
     let first : pixel page row.begin sent.moment ≤ pixel page row.begin sent.end = pixel_rises page row.begin sent.moment sent.end rise is order in
     let ends : pixel page row.begin sent.end ≤ pixel page row.begin last = pixel_rises page row.begin sent.end last rise is (omega arith) in
-    let left : 1500 ≤ place page.scale (sent.moment + page.cycle.lift - row.begin) = (within page.scale (sent.moment + page.cycle.lift - row.begin) is).0 in
-    (tens (place page.scale (sent.moment + page.cycle.lift - row.begin)) left, behind (pixel page row.begin sent.moment) (pixel page row.begin sent.end) (pixel page row.begin last) first ends)
+    let left : 1500 ≤ place page.scale (sent.moment + page.cycle.origin_offset - row.begin) = (within page.scale (sent.moment + page.cycle.origin_offset - row.begin) is).0 in
+    (tens (place page.scale (sent.moment + page.cycle.origin_offset - row.begin)) left, behind (pixel page row.begin sent.moment) (pixel page row.begin sent.end) (pixel page row.begin last) first ends)
   where
     tens : (n : ℕ) → 1500 ≤ n → 1450 + 40 ≤ n / 10 * 10
     tens n h = omega arith

@@ -29,7 +29,7 @@ use Rattle.bus_cycles.specs.Pages.{Page, page_of}
 use Rattle.bus_cycles.specs.Rows.{Cycle, Row, cycle_of, is_new, row_at, rows, rows_from, rows_of, with_sent}
 use Rattle.bus_cycles.specs.Sents.{shown}
 use Rattle.bus_cycles.proofs.MarkedLemmas.{part_of}
-use Rattle.bus_cycles.proofs.RowLemmas.{no_lift}
+use Rattle.bus_cycles.proofs.RowLemmas.{no_origin_offset}
 
 -- ---- offsets
 due_is : (table : Table) (sender : Sender) → table.mode ≡ Periodic → due_of table sender ≡ sender.at
@@ -164,12 +164,12 @@ dues_marked table window trace survey counts sender valid is mode one =
 pub begin_where_due : BoxesBeginWhereDue
 begin_where_due table survey counts sender begin lines sent mode at =
     let page : Page = page_of table survey counts in
-    let none : (cycle_of table).lift ≡ 0 = no_lift table mode in
-    let since : sent.moment + (cycle_of table).lift - begin ≡ due_of table sender = behind sent.moment (cycle_of table).lift begin (due_of table sender) none at in
+    let none : (cycle_of table).origin_offset ≡ 0 = no_origin_offset table mode in
+    let since : sent.moment + (cycle_of table).origin_offset - begin ≡ due_of table sender = behind sent.moment (cycle_of table).origin_offset begin (due_of table sender) none at in
     ap (λ n. place page.scale n / 10 * 10) since
   where
-    behind : (moment lift begin due : ℕ) → lift ≡ 0 → moment ≡ begin + due → moment + lift - begin ≡ due
-    behind moment lift begin due e f = omega arith
+    behind : (moment origin_offset begin due : ℕ) → origin_offset ≡ 0 → moment ≡ begin + due → moment + origin_offset - begin ≡ due
+    behind moment origin_offset begin due e f = omega arith
 
 -- ---- ends
 record IsNamed (row : Row) : Type 0 where

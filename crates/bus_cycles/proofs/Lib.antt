@@ -19,6 +19,6 @@ pub mod LoadLemmas
 pub mod ApartLemmas
 pub mod LaneLemmas
 pub mod WordLemmas
-pub mod LengthLemmas
+pub mod LastEndLemmas
 pub mod FaultLemmas
 pub mod MarkedLemmas

@@ -9,7 +9,8 @@ use Rattle.bus_findings.specs.declared.judgement.Judgement.{Judgement}
 use Rattle.bus_findings.specs.Terminals.{fault_count, fault_sum, is_faulty}
 use Rattle.bus_shapes.specs.declared.sent.Sent.{Sent}
 use Rattle.bus_cycles.specs.Faults.{fault_at, fault_of, fault_text, fault_word, faults_of, has_fault, row_faults}
-use Rattle.bus_cycles.specs.Laws.{FaultsAreMarked, IsPartOf, NoFaultIsMarked}
+use Rattle.bus_cycles.specs.Laws.{IsPartOf}
+use Rattle.bus_cycles.specs.MarkLaws.{FaultsAreMarked, NoFaultIsMarked}
 use Rattle.bus_cycles.specs.Rows.{rows}
 use Rattle.bus_cycles.specs.Surveys.{is_drawn}
 

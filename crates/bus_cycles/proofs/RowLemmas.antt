@@ -18,7 +18,7 @@ use Rattle.bus_shapes.specs.Classes.{is_hatched}
 use Rattle.bus_shapes.specs.declared.sent.Sent.{Sent}
 use Rattle.bus_trace.specs.Windows.{Window}
 use Rattle.bus_cycles.specs.Laws.{HatchedAreDrawnLast, HatchedAreGarbled, RowsAreAPartition, RowsAreIntervals}
-use Rattle.bus_cycles.specs.Rows.{Cycle, Row, begin_in, cycle_of, interval_of, is_new, is_new_in, lift_of, row_at, rows, rows_from, rows_of, with_sent}
+use Rattle.bus_cycles.specs.Rows.{Cycle, Row, begin_in, cycle_of, interval_of, is_new, is_new_in, origin_offset_of, row_at, rows, rows_from, rows_of, with_sent}
 use Rattle.bus_cycles.specs.Pages.{Page}
 use Rattle.bus_cycles.specs.RowTexts.{class_of, garbled_class, shade}
 use Rattle.bus_shapes.specs.Sending.{sent_of, sents}
@@ -104,7 +104,7 @@ within_interval ti t some =
     (omega arith, omega arith)
 
 abbrev IsWhole : Cycle → Row → Type 0
-IsWhole cycle row = AllByRecursion (λ (sent : Sent). interval_of cycle.ti sent.moment + cycle.lift ≡ row.begin) row.sents
+IsWhole cycle row = AllByRecursion (λ (sent : Sent). interval_of cycle.ti sent.moment + cycle.origin_offset ≡ row.begin) row.sents
 
 whole_row : (cycle : Cycle) (place : ℕ) (sent : Sent) → cycle.mode ≡ Periodic → IsWhole cycle (row_at cycle place sent)
 whole_row cycle place sent e = (sym (ap (λ m. begin_in m cycle sent) e), tt)
@@ -115,9 +115,9 @@ whole_step : (cycle : Cycle) (row : Row) (x : Sent) (xs : List Sent) (b : Bool) 
     → AllByRecursion (IsWhole cycle) (cond b (row ∷ rows_from cycle (row_at cycle (row.place + 1) x) xs) (rows_from cycle (with_sent row x) xs))
 whole_step cycle row x xs true e w n new more = (w, new)
 whole_step cycle row x xs false e w n new more =
-    let same : is_new cycle row.begin x ≡ not (eqb (interval_of cycle.ti x.moment + cycle.lift) row.begin) = ap (λ m. is_new_in m cycle row.begin x) e in
-    let here : interval_of cycle.ti x.moment + cycle.lift ≡ row.begin = eqb-true (interval_of cycle.ti x.moment + cycle.lift) row.begin (not-false (eqb (interval_of cycle.ti x.moment + cycle.lift) row.begin) (sym same ∙ n)) in
-    more (all_push (λ (sent : Sent). interval_of cycle.ti sent.moment + cycle.lift ≡ row.begin) row.sents x w here)
+    let same : is_new cycle row.begin x ≡ not (eqb (interval_of cycle.ti x.moment + cycle.origin_offset) row.begin) = ap (λ m. is_new_in m cycle row.begin x) e in
+    let here : interval_of cycle.ti x.moment + cycle.origin_offset ≡ row.begin = eqb-true (interval_of cycle.ti x.moment + cycle.origin_offset) row.begin (not-false (eqb (interval_of cycle.ti x.moment + cycle.origin_offset) row.begin) (sym same ∙ n)) in
+    more (all_push (λ (sent : Sent). interval_of cycle.ti sent.moment + cycle.origin_offset ≡ row.begin) row.sents x w here)
 
 whole_from : (cycle : Cycle) (row : Row) (xs : List Sent) → cycle.mode ≡ Periodic → IsWhole cycle row → AllByRecursion (IsWhole cycle) (rows_from cycle row xs)
 whole_from cycle row [] e w = (w, tt)
@@ -129,19 +129,19 @@ whole_rows : (cycle : Cycle) (xs : List Sent) → cycle.mode ≡ Periodic → Al
 whole_rows cycle [] e = tt
 whole_rows cycle (x ∷ xs) e = whole_from cycle (row_at cycle 0 x) xs e (whole_row cycle 0 x e)
 
-pub no_lift : (table : Table) → table.mode ≡ Periodic → (cycle_of table).lift ≡ 0
-no_lift table mode = ap (λ m. lift_of m table.sg) mode
+pub no_origin_offset : (table : Table) → table.mode ≡ Periodic → (cycle_of table).origin_offset ≡ 0
+no_origin_offset table mode = ap (λ m. origin_offset_of m table.sg) mode
 
 pub intervals : RowsAreIntervals
 intervals table window list row sent valid mode i j =
     let cycle : Cycle = cycle_of table in
     let whole : IsWhole cycle row = of_each (IsWhole cycle) (rows table window list) (whole_rows cycle (shown window list) mode) row i in
-    let lifted : interval_of table.ti sent.moment + cycle.lift ≡ row.begin = of_each (λ (s : Sent). interval_of cycle.ti s.moment + cycle.lift ≡ row.begin) row.sents whole sent j in
-    let none : cycle.lift ≡ 0 = no_lift table mode in
-    let at : interval_of table.ti sent.moment ≡ row.begin = plain (interval_of table.ti sent.moment) cycle.lift row.begin none lifted in
+    let from_origin : interval_of table.ti sent.moment + cycle.origin_offset ≡ row.begin = of_each (λ (s : Sent). interval_of cycle.ti s.moment + cycle.origin_offset ≡ row.begin) row.sents whole sent j in
+    let none : cycle.origin_offset ≡ 0 = no_origin_offset table mode in
+    let at : interval_of table.ti sent.moment ≡ row.begin = plain (interval_of table.ti sent.moment) cycle.origin_offset row.begin none from_origin in
     let some : 0 < table.ti = (let f = valid_facts table valid in omega (arith, f.ti_least)) in
     let parts = within_interval table.ti sent.moment some in
     (sym at, subst (λ b. b ≤ sent.moment) at parts.0, subst (λ b. sent.moment < b + table.ti) at parts.1)
   where
-    plain : (a lift b : ℕ) → lift ≡ 0 → a + lift ≡ b → a ≡ b
-    plain a lift b e f = omega arith
+    plain : (a origin_offset b : ℕ) → origin_offset ≡ 0 → a + origin_offset ≡ b → a ≡ b
+    plain a origin_offset b e f = omega arith

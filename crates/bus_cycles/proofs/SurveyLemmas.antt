@@ -5,12 +5,12 @@ use Rattle.bus_shapes.specs.declared.sent.Sent.{Sent}
 use Rattle.bus_cycles.specs.Rows.{Cycle, Extent, Row, end_of_all, extent_of, is_new, row_at, rows_from, with_sent}
 use Rattle.bus_cycles.specs.Cuts.{Seen, is_whole}
 use Rattle.bus_cycles.specs.inside.Surveying.{Surveys, rest_of}
-use Rattle.bus_cycles.specs.Surveys.{Survey, is_drawn, length_of, longest_with, nothing, told_of, whole_with, with_row}
+use Rattle.bus_cycles.specs.Surveys.{Survey, is_drawn, last_end_of, longest_with, nothing, told_of, whole_with, with_row}
 
-pub longest_most : (lift longest : ℕ) (row : Extent) (limit : ℕ) → longest ≤ limit → row.end + lift ≤ limit
-    → (longest_with lift longest row ≤ limit) × (longest ≤ longest_with lift longest row)
-longest_most lift longest row limit low ends =
-    elim (is_drawn row.place) as (λ b. (cond b (max longest (length_of lift row)) longest ≤ limit) × (longest ≤ cond b (max longest (length_of lift row)) longest)) [
+pub longest_most : (origin_offset longest : ℕ) (row : Extent) (limit : ℕ) → longest ≤ limit → row.end + origin_offset ≤ limit
+    → (longest_with origin_offset longest row ≤ limit) × (longest ≤ longest_with origin_offset longest row)
+longest_most origin_offset longest row limit low ends =
+    elim (is_drawn row.place) as (λ b. (cond b (max longest (last_end_of origin_offset row)) longest ≤ limit) × (longest ≤ cond b (max longest (last_end_of origin_offset row)) longest)) [
       | true ↦ (omega arith, omega arith)
       | false ↦ (omega arith, omega arith)
     ]
@@ -25,7 +25,7 @@ pub end_with : (row : Row) (sent : Sent) → end_of_all (with_sent row sent).sen
 end_with row sent = fold-append (λ end (s : Sent). max end s.end) 0 row.sents (sent ∷ [])
 
 pub surveys_new : (seen : Seen) (breach : Option ℕ) (cycle : Cycle) (whole survey survey' : Survey) (extent extent' : Extent) (sent : Sent) (left : List Sent)
-    → Surveys seen breach cycle whole survey extent (sent ∷ left) → sent.end + cycle.lift ≤ 2 ^ 41 → is_new cycle extent.begin sent ≡ true
+    → Surveys seen breach cycle whole survey extent (sent ∷ left) → sent.end + cycle.origin_offset ≤ 2 ^ 41 → is_new cycle extent.begin sent ≡ true
     → survey' ≡ with_row cycle seen breach survey extent → extent' ≡ extent_of (row_at cycle (extent.place + 1) sent) → Surveys seen breach cycle whole survey' extent' left
 surveys_new seen breach cycle whole survey survey' extent extent' sent left s low new survey_is extent_is =
     let row : Row = s.row in
@@ -34,8 +34,8 @@ surveys_new seen breach cycle whole survey survey' extent extent' sent left s lo
     let begin_is : extent.begin ≡ row.begin = ap (λ (e : Extent). e.begin) s.extent_is in
     let now : is_new cycle row.begin sent ≡ true = ap (λ b. is_new cycle b sent) (sym begin_is) ∙ new in
     let now_is : extent' ≡ extent_of next = extent_is ∙ ap (λ p. extent_of (row_at cycle (p + 1) sent)) place_is in
-    let longest = longest_most cycle.lift survey.longest extent (2 ^ 41) s.low s.ends in
-    let more : survey'.longest ≡ longest_with cycle.lift survey.longest extent = ap (λ (v : Survey). v.longest) survey_is in
+    let longest = longest_most cycle.origin_offset survey.longest extent (2 ^ 41) s.low s.ends in
+    let more : survey'.longest ≡ longest_with cycle.origin_offset survey.longest extent = ap (λ (v : Survey). v.longest) survey_is in
     let end_is : extent'.end ≡ max 0 sent.end = ap (λ (e : Extent). e.end) now_is in
     let counted : survey'.count ≡ survey.count + 1 = ap (λ (v : Survey). v.count) survey_is in
     let whole_is : survey'.whole ≡ whole_with cycle seen survey.whole extent = ap (λ (v : Survey). v.whole) survey_is in
@@ -43,8 +43,8 @@ surveys_new seen breach cycle whole survey survey' extent extent' sent left s lo
     let place_now : extent'.place ≡ row.place + 1 = ap (λ (e : Extent). e.place) now_is in
     let some_was : cycle.ti ≤ survey.longest = s.some in
     let count_was : survey.count ≡ extent.place = s.count in
-    let least : survey.longest ≤ longest_with cycle.lift survey.longest extent = longest.1 in
-    let most : longest_with cycle.lift survey.longest extent ≤ 2 ^ 41 = longest.0 in
+    let least : survey.longest ≤ longest_with cycle.origin_offset survey.longest extent = longest.1 in
+    let most : longest_with cycle.origin_offset survey.longest extent ≤ 2 ^ 41 = longest.0 in
     record {
       row = next;
       extent_is = now_is;
@@ -59,7 +59,7 @@ surveys_new seen breach cycle whole survey survey' extent extent' sent left s lo
     }
 
 pub surveys_more : (seen : Seen) (breach : Option ℕ) (cycle : Cycle) (whole survey : Survey) (extent extent' : Extent) (sent : Sent) (left : List Sent)
-    → Surveys seen breach cycle whole survey extent (sent ∷ left) → sent.end + cycle.lift ≤ 2 ^ 41 → is_new cycle extent.begin sent ≡ false
+    → Surveys seen breach cycle whole survey extent (sent ∷ left) → sent.end + cycle.origin_offset ≤ 2 ^ 41 → is_new cycle extent.begin sent ≡ false
     → ((row : Row) → extent ≡ extent_of row → extent' ≡ extent_of (with_sent row sent)) → Surveys seen breach cycle whole survey extent' left
 surveys_more seen breach cycle whole survey extent extent' sent left s low new extent_is =
     let row : Row = s.row in
@@ -71,7 +71,7 @@ surveys_more seen breach cycle whole survey extent extent' sent left s low new e
     let end_was : extent.end ≡ end_of_all row.sents = ap (λ (e : Extent). e.end) s.extent_is in
     let place_is : extent.place ≡ row.place = ap (λ (e : Extent). e.place) s.extent_is in
     let place_now : extent'.place ≡ row.place = ap (λ (e : Extent). e.place) now_is in
-    let ends_was : extent.end + cycle.lift ≤ 2 ^ 41 = s.ends in
+    let ends_was : extent.end + cycle.origin_offset ≤ 2 ^ 41 = s.ends in
     let count_was : survey.count ≡ extent.place = s.count in
     record {
       row = next;
@@ -88,10 +88,10 @@ surveys_more seen breach cycle whole survey extent extent' sent left s low new e
 pub surveys_end : (seen : Seen) (breach : Option ℕ) (cycle : Cycle) (whole survey result : Survey) (extent : Extent) (left : List Sent) → Surveys seen breach cycle whole survey extent left → left ≡ []
     → result ≡ with_row cycle seen breach survey extent → (result ≡ whole) × (cycle.ti ≤ result.longest) × (result.longest ≤ 2 ^ 41)
 surveys_end seen breach cycle whole survey result extent left s none result_is =
-    let longest = longest_most cycle.lift survey.longest extent (2 ^ 41) s.low s.ends in
-    let more : result.longest ≡ longest_with cycle.lift survey.longest extent = ap (λ (v : Survey). v.longest) result_is in
-    let least : survey.longest ≤ longest_with cycle.lift survey.longest extent = longest.1 in
-    let most : longest_with cycle.lift survey.longest extent ≤ 2 ^ 41 = longest.0 in
+    let longest = longest_most cycle.origin_offset survey.longest extent (2 ^ 41) s.low s.ends in
+    let more : result.longest ≡ longest_with cycle.origin_offset survey.longest extent = ap (λ (v : Survey). v.longest) result_is in
+    let least : survey.longest ≤ longest_with cycle.origin_offset survey.longest extent = longest.1 in
+    let most : longest_with cycle.origin_offset survey.longest extent ≤ 2 ^ 41 = longest.0 in
     let some_was : cycle.ti ≤ survey.longest = s.some in (
       result_is ∙ ap (with_row cycle seen breach survey) s.extent_is ∙ ap (λ l. rest_of cycle seen breach survey (rows_from cycle s.row l)) (sym none) ∙ s.whole_is,
       omega arith,
@@ -99,7 +99,7 @@ surveys_end seen breach cycle whole survey result extent left s none result_is =
     )
 
 pub surveys_first : (seen : Seen) (breach : Option ℕ) (cycle : Cycle) (survey : Survey) (extent : Extent) (first : Sent) (left : List Sent) → survey ≡ nothing cycle
-    → extent ≡ extent_of (row_at cycle 0 first) → first.end + cycle.lift ≤ 2 ^ 41 → cycle.ti ≤ 2 ^ 41 → Surveys seen breach cycle (told_of cycle seen breach (first ∷ left)) survey extent left
+    → extent ≡ extent_of (row_at cycle 0 first) → first.end + cycle.origin_offset ≤ 2 ^ 41 → cycle.ti ≤ 2 ^ 41 → Surveys seen breach cycle (told_of cycle seen breach (first ∷ left)) survey extent left
 surveys_first seen breach cycle survey extent first left survey_is extent_is low short =
     let longest_is : survey.longest ≡ cycle.ti = ap (λ (v : Survey). v.longest) survey_is in
     let count_is : survey.count ≡ 0 = ap (λ (v : Survey). v.count) survey_is in

@@ -2,25 +2,25 @@
 use Rattle.std.proofs.Common.{ℕ, ◌+◌, ◌-◌, ◌*◌, ◌/◌, ◌≤◌, max, arith}
 use Rattle.bus_shapes.specs.Laws.{PlacesLieWithin, PlacesRise}
 use Rattle.bus_shapes.specs.Scales.{IsScale, place}
-use Rattle.bus_cycles.specs.Laws.{BreachWordHidesNone}
+use Rattle.bus_cycles.specs.MarkLaws.{BreachWordHidesNone}
 use Rattle.bus_cycles.specs.Pages.{Page, page_of}
 use Rattle.bus_cycles.specs.RowTexts.{left_of, pixel, right_of}
 
 -- an edge on a whole pixel, which is no more than the right edge of the rows
 on_pixel : (page : Page) (begin t : ℕ) → PlacesLieWithin → IsScale page.scale → pixel page begin t ≤ page.scale.left + page.scale.width
 on_pixel page begin t within is =
-    let most = (within page.scale (t + page.cycle.lift - begin) is).1 in
-    tens (place page.scale (t + page.cycle.lift - begin)) (page.scale.left + page.scale.width) most
+    let most = (within page.scale (t + page.cycle.origin_offset - begin) is).1 in
+    tens (place page.scale (t + page.cycle.origin_offset - begin)) (page.scale.left + page.scale.width) most
   where
     tens : (a b : ℕ) → a ≤ b → a / 10 * 10 ≤ b
     tens a b h = omega arith
 
 pub pixel_rises : (page : Page) (begin t u : ℕ) → PlacesRise → IsScale page.scale → t ≤ u → pixel page begin t ≤ pixel page begin u
 pixel_rises page begin t u rise is order =
-    let lift : ℕ = page.cycle.lift in
-    let places : place page.scale (t + lift - begin) ≤ place page.scale (u + lift - begin) =
-    rise page.scale (t + lift - begin) (u + lift - begin) is (omega arith) in
-    tens (place page.scale (t + lift - begin)) (place page.scale (u + lift - begin)) places
+    let origin_offset : ℕ = page.cycle.origin_offset in
+    let places : place page.scale (t + origin_offset - begin) ≤ place page.scale (u + origin_offset - begin) =
+    rise page.scale (t + origin_offset - begin) (u + origin_offset - begin) is (omega arith) in
+    tens (place page.scale (t + origin_offset - begin)) (place page.scale (u + origin_offset - begin)) places
   where
     tens : (a b : ℕ) → a ≤ b → a / 10 * 10 ≤ b / 10 * 10
     tens a b h = omega arith

@@ -13,13 +13,13 @@ seen_of counts = record { from = counts.from; to = min counts.to counts.horizon 
 -- Whether a row is cut at its beginning: in periodic mode its interval begins before what is seen, and else its first transmission isn't
 -- seen to begin a cycle.
 abbrev pub is_cut_before_in : Mode → Cycle → Seen → Extent → Bool
-is_cut_before_in Periodic cycle seen row = nat_lt row.begin (seen.from + cycle.lift)
+is_cut_before_in Periodic cycle seen row = nat_lt row.begin (seen.from + cycle.origin_offset)
 is_cut_before_in Aperiodic cycle seen row = not row.fresh
 
 -- Whether it is cut at its end: in periodic mode its interval isn't over in what is seen, and else less than a synchronization gap of what
 -- is seen lies behind its end, so that more transmissions may follow in the same cycle.
 abbrev pub is_cut_behind_in : Mode → Cycle → Seen → Extent → Bool
-is_cut_behind_in Periodic cycle seen row = nat_lt (seen.to + cycle.lift) (row.begin + cycle.ti)
+is_cut_behind_in Periodic cycle seen row = nat_lt (seen.to + cycle.origin_offset) (row.begin + cycle.ti)
 is_cut_behind_in Aperiodic cycle seen row = nat_lt seen.to (row.end + cycle.sg)
 
 -- The same, by the mode of the cycle.

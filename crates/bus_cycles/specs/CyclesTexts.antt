@@ -69,15 +69,15 @@ whole_words survey =
     ++ parted (decimal survey.most) ++ codes " bit times behind their begins"
 
 -- The same where there are rows.
-abbrev pub lengths_words : Survey → List ℕ
-lengths_words survey =
+abbrev pub last_ends_words : Survey → List ℕ
+last_ends_words survey =
     if survey.count == 0 then [] else (if survey.whole == 0 then codes "; none whole" else whole_words survey)
 
 -- How many rows are drawn of how many, where the next begins, and where the last of those ends that are whole.
 abbrev pub row_words : Survey → List ℕ
 row_words survey =
     codes "a row for each cycle, from its begin: " ++ parted (decimal (min survey.count most_rows)) ++ codes " of "
-    ++ parted (decimal survey.count) ++ next_words survey.next ++ lengths_words survey
+    ++ parted (decimal survey.count) ++ next_words survey.next ++ last_ends_words survey
 
 -- The axis of microseconds.
 abbrev pub upper_axis : Axis

@@ -14,5 +14,6 @@ pub mod Listings
 pub mod Legends
 pub mod CyclesTexts
 pub mod Laws
+pub mod MarkLaws
 pub mod PictureLaws
 pub mod inside

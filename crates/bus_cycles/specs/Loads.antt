@@ -13,7 +13,7 @@ use Rattle.bus_cycles.specs.declared.measures.TheConstants.{LOAD_RIGHT as load_r
 use Rattle.bus_cycles.specs.Pages.{Page}
 use Rattle.bus_cycles.specs.Rows.{Cycle, Extent, Row, extent_of}
 use Rattle.bus_cycles.specs.RowTexts.{line_of, where_drawn}
-use Rattle.bus_cycles.specs.Surveys.{length_of}
+use Rattle.bus_cycles.specs.Surveys.{last_end_of}
 
 -- How many bit times a row has at least: in periodic mode those of its interval, else one.
 abbrev pub least_in : Mode → Cycle → ℕ
@@ -22,11 +22,11 @@ least_in Aperiodic cycle = 1
 
 -- How many bit times a row has, from its beginning on.
 abbrev pub whole_of : Cycle → Extent → ℕ
-whole_of cycle row = max (least_in cycle.mode cycle) (length_of cycle.lift row)
+whole_of cycle row = max (least_in cycle.mode cycle) (last_end_of cycle.origin_offset row)
 
 -- For how many of them a list has carrier. Those before the settled start have none.
 abbrev pub busy_of : Cycle → List Entry → Extent → ℕ
-busy_of cycle list row = carrier_bits list (row.begin - cycle.lift) (row.begin + whole_of cycle row - cycle.lift)
+busy_of cycle list row = carrier_bits list (row.begin - cycle.origin_offset) (row.begin + whole_of cycle row - cycle.origin_offset)
 
 -- The share of its bit times that are so many, in words, at the right end of a row.
 abbrev pub share_words : Page → Extent → ℕ → List ℕ

@@ -53,9 +53,9 @@ abbrev pub AreDueRows : ℕ → ℕ → List Row → ℕ → Type 0
 AreDueRows ti holds rows count =
     (row : Row) → In row rows → IsTrue (is_drawn row.place) → (row.begin / ti < holds) ↔ (row.place < count)
 
--- In periodic mode the line of a sender goes over exactly the drawn rows in which a start of it is due, of which there are no more than rows
--- are drawn, at the place of the moment at which it is, counted from the beginning of a row; and it has no other. Where there are none, it
--- has no line.
+-- In periodic mode the line of a sender goes over exactly the drawn rows in which a start of it is due, of which there are no more than
+-- rows are drawn, at the place of the moment at which it is, counted from the beginning of a row; and it has no other. Where there are
+-- none, it has no line.
 pub record IsMarkedDue (page : Page) (table : Table) (window : Window) (trace : Recording) (sender : Sender) : Type 0 where
   pub count : ℕ
   pub rows_are : AreDueRows table.ti (held trace.holds sender.number) (rows table window trace.list) count

@@ -14,7 +14,7 @@ use Rattle.bus_shapes.specs.Measures as shapes
 use Rattle.bus_cycles.specs.Cuts.{is_cut_before, is_cut_behind, is_whole}
 use Rattle.bus_cycles.specs.Rows.{Extent, Row, extent_of}
 use Rattle.bus_cycles.specs.Pages.{Page, top_of}
-use Rattle.bus_cycles.specs.Surveys.{is_drawn, length_of}
+use Rattle.bus_cycles.specs.Surveys.{is_drawn, last_end_of}
 use Rattle.bus_cycles.specs.declared.measures.TheConstants.{BEGINS_RIGHT as begins_right, BOX_BELOW as box_below, ENDS_LEFT as ends_left}
 use Rattle.bus_cycles.specs.declared.measures.TheConstants.{LONG_NUMBER as long_number, MIDDLE_LINE as middle_line}
 use Rattle.bus_cycles.specs.declared.measures.TheConstants.{MIDDLE_NUMBER as middle_number, NARROW_BOX as narrow_box}
@@ -26,7 +26,7 @@ use Rattle.bus_cycles.specs.Measures.{slots}
 -- ---- where a transmission is
 -- The place of a moment in a row that began at this moment, on a whole pixel.
 abbrev pub pixel : Page → ℕ → ℕ → ℕ
-pixel page begin t = place page.scale (t + page.cycle.lift - begin) / shapes.pixel * shapes.pixel
+pixel page begin t = place page.scale (t + page.cycle.origin_offset - begin) / shapes.pixel * shapes.pixel
 
 -- The left edge of a transmission in a row that began at this moment.
 abbrev pub left_of : Page → ℕ → Sent → ℕ
@@ -139,20 +139,21 @@ line_of page row = top_of page row + page.row_height / 2 + middle_line
 
 -- The moment at which a row begins, which may lie before the settled start, given from how long before that it is counted.
 abbrev pub begin_words : ℕ → ℕ → List ℕ
-begin_words lift begin = if nat_lt begin lift then codes "-" ++ decimal (lift - begin) else decimal (begin - lift)
+begin_words origin_offset begin =
+    if nat_lt begin origin_offset then codes "-" ++ decimal (origin_offset - begin) else decimal (begin - origin_offset)
 
--- The length of a row in words, and whether it is cut.
-abbrev pub length_words : Page → Extent → List ℕ
-length_words page row =
-    if is_whole page.cycle page.seen row then decimal (length_of page.cycle.lift row)
-    else codes "cut " ++ decimal (length_of page.cycle.lift row)
+-- The last end of a row in words, and whether it is cut.
+abbrev pub last_end_words : Page → Extent → List ℕ
+last_end_words page row =
+    if is_whole page.cycle page.seen row then decimal (last_end_of page.cycle.origin_offset row)
+    else codes "cut " ++ decimal (last_end_of page.cycle.origin_offset row)
 
--- The words of a row: its number, from 1, and the moment at which it begins at its left, its length at its right.
+-- The words of a row: its number, from 1, and the moment at which it begins at its left, its last end at its right.
 abbrev pub words_of : Page → Extent → List ℕ
 words_of page row =
     words_text Small shapes.left_margin (line_of page row.place) (decimal (row.place + 1))
-    ++ words_text Detail begins_right (line_of page row.place) (begin_words page.cycle.lift row.begin)
-    ++ words_text Detail shapes.right_margin (line_of page row.place) (length_words page row)
+    ++ words_text Detail begins_right (line_of page row.place) (begin_words page.cycle.origin_offset row.begin)
+    ++ words_text Detail shapes.right_margin (line_of page row.place) (last_end_words page row)
 
 -- Where a row that is cut at its beginning is drawn open: left of its boxes.
 abbrev pub before_area : Page → ℕ → Area

@@ -1,5 +1,6 @@
 -- The rows of a picture: where each begins and ends, and its transmissions.
-use Rattle.std.specs.Prelude.{ℕ, ◌+◌, ◌-◌, ◌*◌, ◌/◌, Bool, not, ◌&&◌, ◌==◌, nat_le, nat_lt, max, min, fold, List, [], ◌∷◌, ◌++◌, if◌then◌else◌}
+use Rattle.std.specs.Prelude.{ℕ, ◌+◌, ◌-◌, ◌*◌, ◌/◌, Bool, not, ◌&&◌, ◌==◌, nat_le, nat_lt, max, min, fold, List, [], ◌∷◌, ◌++◌}
+use Rattle.std.specs.Prelude.{if◌then◌else◌}
 use Rattle.std.specs.List.{list_any}
 use Rattle.bus_strings.specs.Messages.{Entry}
 use Rattle.bus_table.specs.declared.mode.Mode.{Mode}
@@ -15,9 +16,9 @@ pub use Rattle.bus_cycles.specs.declared.cycle.Extent.{Extent}
 -- ---- where rows begin
 -- How long before the settled start the first row may begin: in aperiodic mode the bus is quiet then for a synchronization gap, which
 -- belongs to the first cycle. The moments at which rows begin are counted from there.
-abbrev pub lift_of : Mode → ℕ → ℕ
-lift_of Aperiodic sg = sg
-lift_of Periodic sg = 0
+abbrev pub origin_offset_of : Mode → ℕ → ℕ
+origin_offset_of Aperiodic sg = sg
+origin_offset_of Periodic sg = 0
 
 -- What of a table tells where rows begin: `lead` is how long before its first transmission a cycle begins, at most.
 abbrev pub cycle_of : Table → Cycle
@@ -26,7 +27,7 @@ cycle_of table = record {
   ti = table.ti;
   sg = table.sg;
   lead = table.sg + greatest_gap table.senders;
-  lift = lift_of table.mode table.sg;
+  origin_offset = origin_offset_of table.mode table.sg;
 }
 
 -- The moment at which the interval began that holds a moment.
@@ -35,14 +36,14 @@ interval_of ti t = t / ti * ti
 
 -- From where on the earlier transmissions have ended, counted as rows are: where there is none, from before the settled start.
 abbrev pub ended_from : Cycle → Sent → ℕ
-ended_from cycle sent = if sent.before == 0 then 0 else sent.before + cycle.lift
+ended_from cycle sent = if sent.before == 0 then 0 else sent.before + cycle.origin_offset
 
 -- The moment at which a row begins of which this is the first transmission: with its interval in periodic mode, and else as soon as the
 -- earlier transmissions have ended, but no more than the lead before it.
 abbrev pub begin_in : Mode → Cycle → Sent → ℕ
-begin_in Periodic cycle sent = interval_of cycle.ti sent.moment + cycle.lift
+begin_in Periodic cycle sent = interval_of cycle.ti sent.moment + cycle.origin_offset
 begin_in Aperiodic cycle sent =
-    min (sent.moment + cycle.lift) (max (ended_from cycle sent) (sent.moment + cycle.lift - cycle.lead))
+    min (sent.moment + cycle.origin_offset) (max (ended_from cycle sent) (sent.moment + cycle.origin_offset - cycle.lead))
 
 -- The same, by the mode of the cycle.
 abbrev pub begin_of : Cycle → Sent → ℕ
@@ -51,7 +52,7 @@ begin_of cycle sent = begin_in cycle.mode cycle sent
 -- Whether a transmission begins a new row behind one that began at this moment: where it is in another interval in periodic mode, and else
 -- where it comes a synchronization gap or more behind the end of all earlier ones.
 abbrev pub is_new_in : Mode → Cycle → ℕ → Sent → Bool
-is_new_in Periodic cycle begin sent = not (interval_of cycle.ti sent.moment + cycle.lift == begin)
+is_new_in Periodic cycle begin sent = not (interval_of cycle.ti sent.moment + cycle.origin_offset == begin)
 is_new_in Aperiodic cycle begin sent = nat_le cycle.sg (sent.moment - sent.before)
 
 -- The same, by the mode of the cycle.
@@ -142,8 +143,8 @@ extent_of row = record {
 
 -- Whether a row takes a moment: in periodic mode one of the interval that begins with it, and else one that isn't before its beginning.
 abbrev pub takes_in : Mode → Cycle → Extent → ℕ → Bool
-takes_in Periodic cycle row t = interval_of cycle.ti t + cycle.lift == row.begin
-takes_in Aperiodic cycle row t = nat_le row.begin (t + cycle.lift)
+takes_in Periodic cycle row t = interval_of cycle.ti t + cycle.origin_offset == row.begin
+takes_in Aperiodic cycle row t = nat_le row.begin (t + cycle.origin_offset)
 
 -- The same, by the mode of the cycle.
 abbrev pub takes : Cycle → Extent → ℕ → Bool

@@ -54,18 +54,18 @@ nothing cycle = record {
   cut = false;
 }
 
--- The length of a row, from the moment at which it begins until the last of its transmissions has ended, given from how long before the
--- settled start the former is counted.
-abbrev pub length_of : ℕ → Extent → ℕ
-length_of lift row = row.end + lift - row.begin
+-- The last end of a row: how many bit times behind its begin the last of its transmissions has ended, given from how long before the
+-- settled start its begin is counted.
+abbrev pub last_end_of : ℕ → Extent → ℕ
+last_end_of origin_offset row = row.end + origin_offset - row.begin
 
--- With one row more: how long the longest is that is drawn.
+-- With one row more: the greatest last end of those that are drawn.
 abbrev pub longest_with : ℕ → ℕ → Extent → ℕ
-longest_with lift longest row = if is_drawn row.place then max longest (length_of lift row) else longest
+longest_with origin_offset longest row = if is_drawn row.place then max longest (last_end_of origin_offset row) else longest
 
 -- With one row more: where the first begins that isn't drawn, as a moment.
 abbrev pub next_with : ℕ → Option ℕ → Extent → Option ℕ
-next_with lift next row = if row.place == most_rows then Some (row.begin - lift) else next
+next_with origin_offset next row = if row.place == most_rows then Some (row.begin - origin_offset) else next
 
 -- With one row more: which is the last that takes the breach.
 abbrev pub marked_with : Cycle → Option ℕ → Option Extent → Extent → Option Extent
@@ -75,17 +75,17 @@ marked_with cycle breach marked row = if takes_breach cycle breach row then Some
 abbrev pub whole_with : Cycle → Seen → ℕ → Extent → ℕ
 whole_with cycle seen whole row = if is_whole cycle seen row then whole + 1 else whole
 
--- With one whole row more, where so many are before it: the least length.
+-- With one whole row more, where so many are before it: the least last end.
 abbrev pub least_with : ℕ → ℕ → ℕ → Extent → ℕ
-least_with lift whole least row = if whole == 0 then length_of lift row else min least (length_of lift row)
+least_with origin_offset whole least row = if whole == 0 then last_end_of origin_offset row else min least (last_end_of origin_offset row)
 
--- With one row more: the least length of those that are whole.
+-- With one row more: the least last end of those that are whole.
 abbrev pub least_where : Cycle → Seen → ℕ → ℕ → Extent → ℕ
-least_where cycle seen whole least row = if is_whole cycle seen row then least_with cycle.lift whole least row else least
+least_where cycle seen whole least row = if is_whole cycle seen row then least_with cycle.origin_offset whole least row else least
 
--- With one row more: the greatest length of those that are whole.
+-- With one row more: the greatest last end of those that are whole.
 abbrev pub most_where : Cycle → Seen → ℕ → Extent → ℕ
-most_where cycle seen most row = if is_whole cycle seen row then max most (length_of cycle.lift row) else most
+most_where cycle seen most row = if is_whole cycle seen row then max most (last_end_of cycle.origin_offset row) else most
 
 -- With one row more: whether one that is drawn has a plain transmission.
 abbrev pub plain_with : Bool → Extent → Bool
@@ -104,8 +104,8 @@ abbrev pub with_row : Cycle → Seen → Option ℕ → Survey → Extent → Su
 with_row cycle seen breach survey row = record {
   count = survey.count + 1;
   whole = whole_with cycle seen survey.whole row;
-  longest = longest_with cycle.lift survey.longest row;
-  next = next_with cycle.lift survey.next row;
+  longest = longest_with cycle.origin_offset survey.longest row;
+  next = next_with cycle.origin_offset survey.next row;
   marked = marked_with cycle breach survey.marked row;
   least = least_where cycle seen survey.whole survey.least row;
   most = most_where cycle seen survey.most row;
@@ -116,20 +116,20 @@ with_row cycle seen breach survey row = record {
 
 -- How far the breach is behind the beginning of its row, where that is drawn.
 abbrev pub reach_in : ℕ → ℕ → Extent → ℕ
-reach_in lift moment row = if is_drawn row.place then moment + lift - row.begin else 0
+reach_in origin_offset moment row = if is_drawn row.place then moment + origin_offset - row.begin else 0
 
 -- How far the breach at this moment, if there is one, is behind the beginning of the row that is marked, if one is.
 abbrev pub reach_of : ℕ → Option ℕ → Option Extent → ℕ
-reach_of lift None marked = 0
-reach_of lift (Some moment) None = 0
-reach_of lift (Some moment) (Some row) = reach_in lift moment row
+reach_of origin_offset None marked = 0
+reach_of origin_offset (Some moment) None = 0
+reach_of origin_offset (Some moment) (Some row) = reach_in origin_offset moment row
 
 -- A picture is also as long as the breach needs, of which the row is known when all rows are told of.
 abbrev pub with_breach : ℕ → Option ℕ → Survey → Survey
-with_breach lift breach survey = record {
+with_breach origin_offset breach survey = record {
   count = survey.count;
   whole = survey.whole;
-  longest = max survey.longest (reach_of lift breach survey.marked);
+  longest = max survey.longest (reach_of origin_offset breach survey.marked);
   next = survey.next;
   marked = survey.marked;
   least = survey.least;
@@ -145,7 +145,7 @@ told_of cycle seen breach sents = fold (with_row cycle seen breach) (nothing cyc
 
 -- What is told of them, with the breach.
 abbrev pub survey_of : Cycle → Seen → Option ℕ → List Sent → Survey
-survey_of cycle seen breach sents = with_breach cycle.lift breach (told_of cycle seen breach sents)
+survey_of cycle seen breach sents = with_breach cycle.origin_offset breach (told_of cycle seen breach sents)
 
 -- What is shown: the transmissions that begin in the window.
 abbrev pub counts : Window → Recording → Counts

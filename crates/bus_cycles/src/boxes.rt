@@ -1,4 +1,4 @@
-//! The rows of a picture: their boxes and words.
+//! The rows of a picture, with their boxes.
 ghost use Rattle.std.specs.Prelude.{◌≡◌, ◌<◌, ◌≤◌, ◌+◌, ◌++◌, [], ◌∷◌, ◌-◌, ◌^◌, List, length};
 ghost use Rattle.std.specs.List.{AllByRecursion};
 ghost use Rattle.bus_outer.specs.Texts.{Adds};
@@ -10,17 +10,13 @@ ghost use Rattle.bus_cycles.specs.RowTexts as definition;
 ghost use Rattle.bus_cycles.specs.Sents.{shown};
 
 use crate::areas::{area_of, class_of, right_of, shade_of};
-use crate::cut::is_whole;
 use crate::cycle::Extent;
-use crate::measures::{
-    BEGINS_RIGHT, ENDS_LEFT, LONG_NUMBER, MIDDLE_LINE, MIDDLE_NUMBER, SHORT_NUMBER,
-};
-use crate::open::{put_cut_before, put_cut_behind};
+use crate::measures::{LONG_NUMBER, MIDDLE_LINE, MIDDLE_NUMBER, SHORT_NUMBER};
 use crate::page::Page;
+use crate::row_words::put_ending;
 use crate::shown::Shown;
-use crate::survey::{MOST_ROWS, length_of};
+use crate::survey::MOST_ROWS;
 use bus_outer::{Sink, TextBuffer};
-use bus_shapes::measures::{LEFT_MARGIN, RIGHT_MARGIN};
 use bus_shapes::{
     Area, Class, Sent, begin_titled, begin_words, digits_class, end_titled, end_words, put_sent,
 };
@@ -148,94 +144,6 @@ fn put_behind<K: Sink>(
     }
     edges[shade] = right;
     put_where_due(text, sink, page, garbled, row, sent);
-}
-
-/// The moment at which a row begins, which may lie before the settled start.
-fn put_begin<K: Sink>(text: &mut TextBuffer, sink: &mut K, lift: u32, begin: u64)
-    ensures { Adds K.held K.faults sink.old sink.new text.old text.new (definition.begin_words lift begin) }
-{
-    let lift = u64::from(lift);
-    if begin < lift {
-        text.put_byte(sink, b'-');
-        text.put_number(sink, lift - begin);
-    } else {
-        text.put_number(sink, begin - lift);
-    }
-}
-
-/// The length of a row, and whether it is cut.
-fn put_length<K: Sink>(text: &mut TextBuffer, sink: &mut K, page: &Page, row: Extent)
-    requires page { IsPage page.now }
-    requires begin { row.begin ≤ 2 ^ 42 }
-    requires low { row.end ≤ 2 ^ 41 }
-    ensures { Adds K.held K.faults sink.old sink.new text.old text.new (definition.length_words page.now row) }
-{
-    let long = length_of(page.cycle.lift, row);
-    if is_whole(&page.cycle, page.seen, row) {
-        text.put_number(sink, long);
-    } else {
-        text.put(sink, b"cut ");
-        text.put_number(sink, long);
-    }
-}
-
-/// The words of a row.
-fn put_row_words<K: Sink>(text: &mut TextBuffer, sink: &mut K, page: &Page, row: Extent)
-    requires page { IsPage page.now }
-    requires place { row.place ≤ 500 }
-    requires begin { row.begin ≤ 2 ^ 42 }
-    requires low { row.end ≤ 2 ^ 41 }
-    ensures { Adds K.held K.faults sink.old sink.new text.old text.new (definition.words_of page.now row) }
-{
-    let line = page.line_of(row.place);
-    begin_words(text, sink, Class::Small, LEFT_MARGIN, line);
-    text.put_number(sink, row.place + 1);
-    end_words(text, sink);
-    begin_words(text, sink, Class::Detail, BEGINS_RIGHT, line);
-    put_begin(text, sink, page.cycle.lift, row.begin);
-    end_words(text, sink);
-    begin_words(text, sink, Class::Detail, RIGHT_MARGIN, line);
-    put_length(text, sink, page, row);
-    end_words(text, sink);
-}
-
-/// The numbers of the first and of the last terminal of a row.
-fn put_ends<K: Sink>(text: &mut TextBuffer, sink: &mut K, page: &Page, row: Extent)
-    requires page { IsPage page.now }
-    requires place { row.place ≤ 500 }
-    ensures { Adds K.held K.faults sink.old sink.new text.old text.new (definition.ends_words page.now row) }
-{
-    begin_words(text, sink, Class::Small, ENDS_LEFT, page.line_of(row.place));
-    text.put_number(sink, row.first);
-    text.put_byte(sink, b'-');
-    text.put_number(sink, row.last);
-    end_words(text, sink);
-}
-
-/// What stands at the end of a row: its words, and where it is cut.
-fn put_closing<K: Sink>(text: &mut TextBuffer, sink: &mut K, page: &Page, row: Extent)
-    requires page { IsPage page.now }
-    requires place { row.place ≤ 500 }
-    requires begin { row.begin ≤ 2 ^ 42 }
-    requires low { row.end ≤ 2 ^ 41 }
-    ensures { Adds K.held K.faults sink.old sink.new text.old text.new (definition.closing_text page.now row) }
-{
-    put_row_words(text, sink, page, row);
-    put_ends(text, sink, page, row);
-    put_cut_before(text, sink, page, row);
-    put_cut_behind(text, sink, page, row);
-}
-
-/// What stands at the end of a row, where it is drawn, in the walk for what is plain.
-fn put_ending<K: Sink>(text: &mut TextBuffer, sink: &mut K, page: &Page, garbled: bool, row: Extent)
-    requires page { IsPage page.now }
-    requires begin { row.begin ≤ 2 ^ 42 }
-    requires low { row.end ≤ 2 ^ 41 }
-    ensures { Adds K.held K.faults sink.old sink.new text.old text.new (definition.ending_text page.now garbled row) }
-{
-    if !garbled && row.place < MOST_ROWS {
-        put_closing(text, sink, page, row);
-    }
 }
 
 /// The words of a row, and the first transmission of the next.

@@ -35,7 +35,7 @@ pub(crate) fn is_cut_before(cycle: &Cycle, seen: Seen, row: Extent) -> bool
     ensures { result ≡ definition.is_cut_before cycle.now seen row }
 {
     match cycle.mode {
-        Mode::Periodic => row.begin < seen.from + u64::from(cycle.lift),
+        Mode::Periodic => row.begin < seen.from + u64::from(cycle.origin_offset),
         Mode::Aperiodic => !row.fresh,
     }
 }
@@ -48,7 +48,8 @@ pub(crate) fn is_cut_behind(cycle: &Cycle, seen: Seen, row: Extent) -> bool
     ensures { result ≡ definition.is_cut_behind cycle.now seen row }
 {
     match cycle.mode {
-        Mode::Periodic => seen.to + u64::from(cycle.lift) < row.begin + u64::from(cycle.ti),
+        Mode::Periodic => seen.to + u64::from(cycle.origin_offset)
+            < row.begin + u64::from(cycle.ti),
         Mode::Aperiodic => seen.to < row.end + u64::from(cycle.sg),
     }
 }

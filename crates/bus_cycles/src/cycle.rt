@@ -18,7 +18,7 @@ pub(crate) struct Cycle {
     /// How long before its first transmission a cycle begins at most, in aperiodic mode.
     pub lead: u64,
     /// How long before the settled start the first row may begin. The moments at which rows begin are counted from there.
-    pub lift: u32,
+    pub origin_offset: u32,
 }
 
 /// Where a row is.
@@ -53,8 +53,8 @@ fn interval_of(ti: u32, t: u64) -> u64
 }
 
 /// How long before the settled start the first row may begin.
-fn lift_of(mode: Mode, sg: u32) -> u32
-    ensures { result ≡ definition.lift_of mode sg }
+fn origin_offset_of(mode: Mode, sg: u32) -> u32
+    ensures { result ≡ definition.origin_offset_of mode sg }
 {
     match mode {
         Mode::Aperiodic => sg,
@@ -73,16 +73,16 @@ impl Cycle {
             ti: table.ti(),
             sg: table.sg(),
             lead: u64::from(table.sg()) + u64::from(greatest_gap(table.senders())),
-            lift: lift_of(table.mode(), table.sg()),
+            origin_offset: origin_offset_of(table.mode(), table.sg()),
         }
     }
 
     /// A moment, counted as those are at which rows begin.
-    fn lifted(&self, t: u64) -> u64
+    fn from_origin(&self, t: u64) -> u64
         requires { t ≤ 2 ^ 41 }
-        ensures { result ≡ t + self.now.lift }
+        ensures { result ≡ t + self.now.origin_offset }
     {
-        t + u64::from(self.lift)
+        t + u64::from(self.origin_offset)
     }
 
     /// From where on the earlier transmissions have ended.
@@ -93,7 +93,7 @@ impl Cycle {
         if sent.before == 0 {
             0
         } else {
-            self.lifted(sent.before)
+            self.from_origin(sent.before)
         }
     }
 
@@ -105,9 +105,9 @@ impl Cycle {
         ensures low { result ≤ 2 ^ 42 }
     {
         match self.mode {
-            Mode::Periodic => interval_of(self.ti, sent.moment) + u64::from(self.lift),
+            Mode::Periodic => interval_of(self.ti, sent.moment) + u64::from(self.origin_offset),
             Mode::Aperiodic => {
-                let moment = self.lifted(sent.moment);
+                let moment = self.from_origin(sent.moment);
                 moment.min(self.ended_from(sent).max(moment.saturating_sub(self.lead)))
             }
         }
@@ -120,7 +120,8 @@ impl Cycle {
         ensures { result ≡ definition.is_new self.now begin sent.now }
     {
         match self.mode {
-            Mode::Periodic => interval_of(self.ti, sent.moment) + u64::from(self.lift) != begin,
+            Mode::Periodic => interval_of(self.ti, sent.moment) + u64::from(self.origin_offset)
+                != begin,
             Mode::Aperiodic => sent.moment.saturating_sub(sent.before) >= u64::from(self.sg),
         }
     }
@@ -159,8 +160,8 @@ impl Cycle {
         ensures { result ≡ definition.takes self.now row t }
     {
         match self.mode {
-            Mode::Periodic => interval_of(self.ti, t) + u64::from(self.lift) == row.begin,
-            Mode::Aperiodic => row.begin <= self.lifted(t),
+            Mode::Periodic => interval_of(self.ti, t) + u64::from(self.origin_offset) == row.begin,
+            Mode::Aperiodic => row.begin <= self.from_origin(t),
         }
     }
 }

@@ -1,29 +1,15 @@
 //! Where a sender is due in the rows, in periodic mode.
 ghost use Rattle.std.specs.Prelude.{◌≡◌, ◌≤◌, ◌<◌, length};
 ghost use Rattle.bus_outer.specs.Texts.{Adds};
-ghost use Rattle.bus_audit.specs.Breaches as breaches;
 ghost use Rattle.bus_cycles.specs.Dues as definition;
 ghost use Rattle.bus_cycles.specs.inside.Bounds.{IsPage};
 
 use crate::measures::{DUE_TOP, DUE_WIDTH};
 use crate::page::Page;
 use bus_outer::{Sink, TextBuffer};
-use bus_shapes::{Area, Class, put_box};
+use bus_shapes::{Area, Class, held, put_box};
 use bus_table::{Sender, Table};
 use bus_trace::Hold;
-
-/// How many messages a terminal held.
-fn held(holds: &[Hold], terminal: u8) -> u32
-    ensures { result ≡ breaches.held holds.now terminal }
-{
-    for hold in holds {
-        let hold = *hold;
-        if hold.terminal == terminal {
-            return hold.count;
-        }
-    }
-    0
-}
 
 /// Whether a start is due in the row that begins then, of a sender that held so many messages.
 fn is_due_at(ti: u32, held: u32, begin: u64) -> bool

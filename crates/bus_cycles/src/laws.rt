@@ -1,12 +1,12 @@
 //! Laws of the picture with a row for each cycle: its rows, boxes, marks and numbers. Each is the contract of a function that does
 //! nothing.
-ghost use Rattle.bus_cycles.specs.Laws.{BreachHidesNone, BreachIsAtItsMoment, BreachWordHidesNone, CountsAreOfRows, EachIsDueOnce};
-ghost use Rattle.bus_cycles.specs.Laws.{FaultHidesNone, FaultsAreMarked, NoFaultIsMarked};
-ghost use Rattle.bus_cycles.specs.Laws.{HatchedAreDrawnLast, HatchedAreGarbled, KeptAreDrawn, LeftOutAreCovered, LengthsAreOfRows};
-ghost use Rattle.bus_cycles.specs.Laws.{LoadsAreShares, NeighboursDiffer, RowsAreAPartition, RowsAreCounted, RowsAreCycles};
-ghost use Rattle.bus_cycles.specs.Laws.{CableIsUnmarked, CutAreOpen, EndsAreNamed};
-ghost use Rattle.bus_cycles.specs.Laws.{OpenHidesNone, RowsAreIntervals, RowsAreNumbered, RowsAscend, RowsHaveLengths};
-ghost use Rattle.bus_cycles.specs.Laws.{SlotsAreKept, TheLastRowIsMarked, ThreeLieApart, WholeAreCounted, WholeAreSeen};
+ghost use Rattle.bus_cycles.specs.Laws.{CountsAreOfRows, CutAreOpen, EachIsDueOnce, EndsAreNamed, HatchedAreDrawnLast, HatchedAreGarbled};
+ghost use Rattle.bus_cycles.specs.Laws.{KeptAreDrawn, LastEndsAreOfRows, LeftOutAreCovered, LoadsAreShares, NeighboursDiffer};
+ghost use Rattle.bus_cycles.specs.Laws.{OpenHidesNone, RowsAreAPartition, RowsAreCounted, RowsAreCycles, RowsAreIntervals};
+ghost use Rattle.bus_cycles.specs.Laws.{RowsAreNumbered, RowsAscend, RowsHaveLastEnds, SlotsAreKept, ThreeLieApart, WholeAreCounted};
+ghost use Rattle.bus_cycles.specs.Laws.{WholeAreSeen};
+ghost use Rattle.bus_cycles.specs.MarkLaws.{BreachHidesNone, BreachIsAtItsMoment, BreachWordHidesNone, CableIsUnmarked, FaultHidesNone};
+ghost use Rattle.bus_cycles.specs.MarkLaws.{FaultsAreMarked, NoFaultIsMarked, TheLastRowIsMarked};
 ghost use Rattle.bus_cycles.specs.PictureLaws.{BoxesBeginWhereDue, BreachIsListed, CutAreListed, DuesAreListed, DuesAreMarked};
 ghost use Rattle.bus_cycles.specs.PictureLaws.{FaultsAreListed, GarbledAreListed, MarksHideNoBox, PlainAreListed};
 
@@ -106,17 +106,17 @@ pub fn fault_hides_none()
     ensures { FaultHidesNone }
 {}
 
-/// All transmissions of a whole row have ended no fewer bit times behind the row's begin than the words above the rows tell at least, and no
-/// more than they tell at most.
-pub fn lengths_are_of_rows()
-    ensures { LengthsAreOfRows }
+/// All transmissions of a whole row have ended no fewer bit times behind the row's begin than the words above the rows tell at least, and
+/// no more than they tell at most.
+pub fn last_ends_are_of_rows()
+    ensures { LastEndsAreOfRows }
 {}
 
-/// Where some row is told to be whole, all transmissions of a whole one have ended as many bit times behind its begin as the words above the
-/// rows tell at least, and those of one as many as they tell at most. And these words tell how many rows there are, and how many of them
-/// are whole.
-pub fn rows_have_lengths()
-    ensures lengths { RowsHaveLengths }
+/// Where some row is told to be whole, all transmissions of a whole one have ended as many bit times behind its begin as the words above
+/// the rows tell at least, and those of one as many as they tell at most. And these words tell how many rows there are, and how many of
+/// them are whole.
+pub fn rows_have_last_ends()
+    ensures last_ends { RowsHaveLastEnds }
     ensures count { RowsAreCounted }
     ensures whole { WholeAreCounted }
 {}

@@ -25,12 +25,14 @@ mod listing;
 mod load;
 mod marked;
 mod measures;
-mod more;
+mod one_row_more;
 mod open;
 mod page;
 mod plot;
+mod row_words;
 mod shown;
 mod survey;
+mod table_marks;
 mod writing;
 
 pub use writing::write_cycles;

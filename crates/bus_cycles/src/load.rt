@@ -15,7 +15,7 @@ use crate::cycle::{Cycle, Extent};
 use crate::measures::LOAD_RIGHT;
 use crate::page::Page;
 use crate::shown::Shown;
-use crate::survey::{MOST_ROWS, length_of};
+use crate::survey::{MOST_ROWS, last_end_of};
 use bus_load::{Stretch, bits_within};
 use bus_outer::{Sink, TextBuffer};
 use bus_shapes::{Class, Sent, begin_words, end_words, put_load_share};
@@ -43,7 +43,7 @@ fn whole_of(cycle: &Cycle, row: Extent) -> u64
     ensures some { 0 < result }
     ensures low { result ≤ 2 ^ 42 }
 {
-    least_in(cycle).max(length_of(cycle.lift, row))
+    least_in(cycle).max(last_end_of(cycle.origin_offset, row))
 }
 
 /// For how many bit times of a row there is carrier.
@@ -54,12 +54,12 @@ fn busy_of(cycle: &Cycle, carrier: &[Stretch], row: Extent) -> u64
     requires apart { AreApart carrier.now }
     ensures { (list : List Entry) → IsCarrierOf carrier.now list → result ≡ definition.busy_of cycle.now list row }
 {
-    let lift = u64::from(cycle.lift);
+    let origin_offset = u64::from(cycle.origin_offset);
     let end = row.begin + whole_of(cycle, row);
     bits_within(
         carrier,
-        row.begin.saturating_sub(lift),
-        end.saturating_sub(lift),
+        row.begin.saturating_sub(origin_offset),
+        end.saturating_sub(origin_offset),
     )
 }
 

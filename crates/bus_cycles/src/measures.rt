@@ -126,8 +126,8 @@ pub(crate) const BREACH_OVER: u64 = 30;
 /// How far above the lower edge of its row its second part begins: where the boxes end.
 pub(crate) const BREACH_BELOW: u64 = 10;
 
-/// Where the word of a breach or of a fault begins: behind the boxes of all rows.
-pub(crate) const BREACH_LEFT: u64 = 8240;
+/// Where the word of a breach or of a fault begins: behind the boxes of all rows, and behind where a row is drawn open.
+pub(crate) const BREACH_LEFT: u64 = 8230;
 
 /// The width of each of the two parts of the mark of a fault.
 pub(crate) const FAULT_WIDTH: u64 = 40;

@@ -138,7 +138,7 @@ impl Page {
         ensures value { result ≡ texts.pixel self.now begin t }
         ensures low { result < 2 ^ 21 }
     {
-        let since = (t + u64::from(self.cycle.lift)).saturating_sub(begin);
+        let since = (t + u64::from(self.cycle.origin_offset)).saturating_sub(begin);
         self.scale.place(since) / PIXEL * PIXEL
     }
 }

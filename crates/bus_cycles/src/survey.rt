@@ -7,7 +7,7 @@ ghost use Rattle.bus_cycles.specs.Surveys as definition;
 
 use crate::cut::Seen;
 use crate::cycle::{Cycle, Extent};
-use crate::more::{
+use crate::one_row_more::{
     cut_with, garbled_with, least_where, longest_with, marked_with, most_where, next_with,
     plain_with, reach_of, whole_with,
 };
@@ -24,7 +24,8 @@ pub(crate) const MOST_ROWS: u64 = 500;
 pub(crate) struct Survey {
     /// How many rows there are.
     pub count: u64,
-    /// How many bit times the longest row has that is drawn, at least a transmit interval, and as many as the first breach needs.
+    /// How many bit times the picture needs: up to the greatest last end of the rows that are drawn, at least a transmit interval, and as
+    /// far as the first breach.
     pub longest: u64,
     /// The moment at which the first row begins that isn't drawn.
     pub next: Option<u64>,
@@ -32,7 +33,7 @@ pub(crate) struct Survey {
     pub marked: Option<Extent>,
     /// How many of them are whole.
     pub whole: u64,
-    /// How many bit times behind its begin the last transmission of a whole row ends, drawn or not, at least; 0 where there is none.
+    /// How many bit times behind its begin all transmissions of a whole row have ended, drawn or not, at least; 0 where there is none.
     pub least: u64,
     /// The same at most.
     pub most: u64,
@@ -102,8 +103,8 @@ impl Survey {
         Survey {
             count: self.count + 1,
             whole: whole_with(cycle, seen, self.whole, row),
-            longest: longest_with(cycle.lift, self.longest, row),
-            next: next_with(cycle.lift, self.next, row),
+            longest: longest_with(cycle.origin_offset, self.longest, row),
+            next: next_with(cycle.origin_offset, self.next, row),
             marked: marked_with(cycle, breach, self.marked, row),
             least: least_where(cycle, seen, self.whole, self.least, row),
             most: most_where(cycle, seen, self.most, row),
@@ -114,17 +115,19 @@ impl Survey {
     }
 
     /// As long as the breach needs.
-    fn with_breach(self, lift: u32, breach: Option<u64>) -> Survey
+    fn with_breach(self, origin_offset: u32, breach: Option<u64>) -> Survey
         requires low { self.longest ≤ 2 ^ 41 }
         requires moment { IfSome breach (λ moment. moment ≤ 2 ^ 40) }
-        ensures value { result ≡ definition.with_breach lift breach self }
+        ensures value { result ≡ definition.with_breach origin_offset breach self }
         ensures more { self.longest ≤ result.longest }
         ensures low { result.longest ≤ 2 ^ 41 }
     {
         Survey {
             count: self.count,
             whole: self.whole,
-            longest: self.longest.max(reach_of(lift, breach, self.marked)),
+            longest: self
+                .longest
+                .max(reach_of(origin_offset, breach, self.marked)),
             next: self.next,
             marked: self.marked,
             least: self.least,
@@ -136,12 +139,13 @@ impl Survey {
     }
 }
 
-/// The length of a row in bit times, given from how long before the settled start its beginning is counted.
-pub(crate) fn length_of(lift: u32, row: Extent) -> u64
+/// How many bit times behind the begin of a row all its transmissions have ended, given from how long before the settled start the begin
+/// is counted.
+pub(crate) fn last_end_of(origin_offset: u32, row: Extent) -> u64
     requires { row.end ≤ 2 ^ 41 }
-    ensures { result ≡ definition.length_of lift row }
+    ensures { result ≡ definition.last_end_of origin_offset row }
 {
-    (row.end + u64::from(lift)).saturating_sub(row.begin)
+    (row.end + u64::from(origin_offset)).saturating_sub(row.begin)
 }
 
 /// What is told of the rows of a transmission and those behind it.
@@ -200,5 +204,5 @@ pub(crate) fn take_survey(
     ensures some { cycle.now.ti ≤ result.longest }
     ensures low { result.longest ≤ 2 ^ 41 }
 {
-    tell(cycle, seen, breach, window, trace).with_breach(cycle.lift, breach)
+    tell(cycle, seen, breach, window, trace).with_breach(cycle.origin_offset, breach)
 }

@@ -9,7 +9,7 @@ use Rattle.bus_dump.specs.DumpTexts.{changes, changes_text, changes_at, changes_
 use Rattle.bus_dump.specs.Scenes.{Scene}
 use Rattle.bus_dump.specs.Signals.{Signal, Value, Bit, Number, Floating, Unknown, value, is_same}
 use Rattle.bus_dump.specs.inside.Walks.{change_put}
-use Rattle.bus_dump.specs.inside.Watching.{StaysAs}
+use Rattle.bus_dump.specs.inside.TimerWalks.{StaysAs}
 use Rattle.bus_dump.proofs.RangeLemmas.{range_join}
 
 -- ---- nothing changes

@@ -1,11 +1,11 @@
 -- The lemmas of this crate; those that a crate above may cite are public.
-pub mod GlanceLemmas
+pub mod ShownStretchLemmas
 pub mod RangeLemmas
 pub mod LiveLemmas
 pub mod FewLemmas
 pub mod WalkLemmas
 pub mod LookLemmas
-pub mod ClockLemmas
+pub mod SenderTimerLemmas
 pub mod ChangeLemmas
 pub mod ValueLemmas
 pub mod LaneLemmas
@@ -20,8 +20,8 @@ pub mod LawLemmas
 pub mod WordLemmas
 pub mod ClearLemmas
 pub mod GarbleLemmas
-pub mod SenderClocks
-pub mod WatchLemmas
+pub mod AllTimerLemmas
+pub mod TimerWalkLemmas
 pub mod TimerLemmas
 pub mod StartLemmas
 pub mod SingleLemmas

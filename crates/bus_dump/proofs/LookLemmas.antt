@@ -7,11 +7,11 @@ use Rattle.std.proofs.lemmas.List.{take_more}
 use Rattle.std.proofs.lemmas.List.Elements.{filter_map-append, All-from_recursion}
 use Rattle.bus_strings.proofs.ListLaws.{all_more}
 use Rattle.bus_strings.specs.Messages.{Message, Entry, bits}
-use Rattle.bus_dump.specs.declared.glance.Glance.{Glance}
+use Rattle.bus_dump.specs.declared.shown_stretch.ShownStretch.{ShownStretch}
 use Rattle.bus_dump.specs.declared.live.Live.{Live}
 use Rattle.bus_dump.specs.OnBus.{Shown, shown_at}
 use Rattle.bus_dump.specs.Seen.{Seen, holds, seen_of}
-use Rattle.bus_dump.specs.inside.Walks.{IsGlance, IsLive, IsSteady, StaysTo, live_of, see, sight_of}
+use Rattle.bus_dump.specs.inside.Walks.{IsShownStretch, IsLive, IsSteady, StaysTo, live_of, see, sight_of}
 use Rattle.bus_dump.proofs.LiveLemmas.{LiveFacts, live_facts, held_from, holds_true, seen_some}
 
 -- what a list of live transmissions has where it has nothing
@@ -19,15 +19,15 @@ abbrev pub no_live : Live
 no_live = record { at = 0; terminal = 0; moment = 0; end = 0; number = 0; garbled = false }
 
 -- ---- one
--- a glance at a message tells how long it stays as it is
-pub glance_now : (m : Message) (d : ℕ) (g : Glance) → IsGlance m d g → g.shown ≡ shown_at m d
-glance_now m d g i = let e : d + 0 ≡ d = omega arith in let some : 1 ≤ g.left = i.some in sym (i.steady 0 (omega arith)) ∙ ap (shown_at m) e
+-- a look at a message tells how long it stays as it is
+pub stretch_now : (m : Message) (d : ℕ) (g : ShownStretch) → IsShownStretch m d g → g.shown ≡ shown_at m d
+stretch_now m d g i = let e : d + 0 ≡ d = omega arith in let some : 1 ≤ g.left = i.some in sym (i.steady 0 (omega arith)) ∙ ap (shown_at m) e
 
-pub glance_stays : (x : Entry) (t : ℕ) (g : Glance) → x.moment ≤ t → IsGlance x.message (t - x.moment) g → StaysTo x t (t + g.left)
-glance_stays x t g begun i later low high =
+pub stretch_stays : (x : Entry) (t : ℕ) (g : ShownStretch) → x.moment ≤ t → IsShownStretch x.message (t - x.moment) g → StaysTo x t (t + g.left)
+stretch_stays x t g begun i later low high =
     let within : t - x.moment + g.left ≤ bits x.message = i.within in
     let e : t - x.moment + (later - t) ≡ later - x.moment = omega arith in
-    (omega arith, ap (shown_at x.message) (sym e) ∙ i.steady (later - t) (omega arith) ∙ glance_now x.message (t - x.moment) g i)
+    (omega arith, ap (shown_at x.message) (sym e) ∙ i.steady (later - t) (omega arith) ∙ stretch_now x.message (t - x.moment) g i)
 
 -- the entry of a live transmission
 pub facts_at : (list : List Entry) (t : ℕ) (live : List Live) (i : ℕ) → i < length live → AllByRecursion (IsLive list t) live → LiveFacts list t (get_or live i no_live)

@@ -23,7 +23,7 @@ use Rattle.bus_dump.proofs.ClearLemmas.{AreApart, few_seen}
 use Rattle.bus_dump.proofs.GarbleLemmas.{in_take, some_kept}
 use Rattle.bus_dump.proofs.LawLemmas.{shown_is_on}
 use Rattle.bus_dump.proofs.LiveLemmas.{held_from, held_to, holds_true, seen_some}
-use Rattle.bus_dump.proofs.GlanceLemmas.{bits_least}
+use Rattle.bus_dump.proofs.ShownStretchLemmas.{bits_least}
 use Rattle.bus_dump.proofs.MessageLemmas.{Alike, AreAlike, same_message}
 use Rattle.bus_dump.proofs.NumberLemmas.{apart, bit_off, bit_pulse, find_seen, is_none, label_floating, message_floating, message_number, one_word}
 use Rattle.bus_dump.proofs.RangeLemmas.{given_along, given_in}

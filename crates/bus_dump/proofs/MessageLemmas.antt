@@ -7,7 +7,7 @@ use Rattle.std.proofs.lemmas.Bool.{cases_lt}
 use Rattle.std.proofs.lemmas.List.{ext_get_or}
 use Rattle.bus_strings.specs.Messages.{IsWordstring, Message, Wordstring, word_count}
 use Rattle.bus_dump.specs.OnBus.{Shown, label_value, shown_at, shown_of, word_at}
-use Rattle.bus_dump.proofs.GlanceLemmas.{first_at, later_at, quiet_at}
+use Rattle.bus_dump.proofs.ShownStretchLemmas.{first_at, later_at, quiet_at}
 
 -- nothing is shown twice, or two that have the same label word and the same word
 abbrev pub Alike : Option Shown → Option Shown → Type 0

@@ -17,11 +17,11 @@ use Rattle.bus_medium.specs.Past.{last_place, own, past}
 use Rattle.bus_medium.proofs.PastLaws.{length_past}
 use Rattle.bus_medium.specs.Timings.{quiet_of, timing_of}
 use Rattle.bus_dump.specs.declared.dump.Dump.TheVariants.{Timers}
-use Rattle.bus_dump.specs.Laws.{GapElapsed, Synchronizes, TimersAreTold}
+use Rattle.bus_dump.specs.TimerLaws.{GapElapsed, Synchronizes, TimersAreTold}
 use Rattle.bus_dump.specs.Scenes.{Scene, elapsed_at, scene_at}
 use Rattle.bus_dump.specs.Signals.{Bit, Gap, Interval, May, Synchronization, Value, elapsed, no_elapsed, value}
 use Rattle.bus_dump.specs.Timers.{Elapsed, has_interval, has_synchronization, has_gap}
-use Rattle.bus_dump.proofs.ClockLemmas.{bare, bare_due, gap_test, synchronization_test}
+use Rattle.bus_dump.proofs.SenderTimerLemmas.{bare, bare_due, gap_test, synchronization_test}
 use Rattle.bus_dump.proofs.RangeLemmas.{range_join}
 
 -- ---- the timers of a sender are its own

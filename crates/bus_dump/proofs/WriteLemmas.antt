@@ -17,7 +17,7 @@ use Rattle.bus_dump.specs.Seen.{Seen, seen_at}
 use Rattle.bus_dump.specs.Signals.{Signal, signals}
 use Rattle.bus_dump.specs.Timers.{Elapsed}
 use Rattle.bus_dump.specs.inside.Walks.{IsWalkable, SteadyTo}
-use Rattle.bus_dump.specs.inside.Watching.{BreachStays, ElapsedStays, StaysAs}
+use Rattle.bus_dump.specs.inside.TimerWalks.{BreachStays, ElapsedStays, StaysAs}
 use Rattle.bus_dump.proofs.ChangeLemmas.{changes_last, changes_left, changes_next}
 
 -- a list of a trace in which none is doubled

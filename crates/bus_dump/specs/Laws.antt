@@ -1,6 +1,5 @@
 -- What follows of the definitions. The contracts of `laws` say that each of these holds.
-use Rattle.std.specs.Prelude.{◌≡◌, ◌≢◌, ◌↔◌, ◌⊎◌, ℕ, ◌+◌, ◌-◌, ◌*◌, ◌/◌, ◌%◌, ◌<◌, ◌≤◌, Bool, true, false, ◌&&◌, ◌||◌}
-use Rattle.std.specs.Prelude.{◌==◌, nat_le, nat_lt}
+use Rattle.std.specs.Prelude.{◌≡◌, ◌≢◌, ◌↔◌, ◌⊎◌, ℕ, ◌-◌, ◌*◌, ◌/◌, ◌%◌, ◌<◌, ◌≤◌, Bool, true, false, ◌&&◌, ◌||◌, ◌==◌, nat_le, nat_lt}
 use Rattle.std.specs.Prelude.{List, [], ◌++◌, length, slice_get, Option, Some, None, IsTrue, if◌then◌else◌}
 use Rattle.std.specs.List.{AllByRecursion, count_by, filter, flat_map, list_any, range_with_len}
 use Rattle.std.specs.Option.{is_some, option_map_or}
@@ -8,23 +7,14 @@ use Rattle.bus_strings.specs.Limits.{word_bits}
 use Rattle.bus_strings.specs.Members.{In}
 use Rattle.bus_strings.specs.Messages.{Entry}
 use Rattle.bus_strings.specs.Transmissions.{IsOrdered, carrier, end_of, garbled, overlaps, pulses}
-use Rattle.bus_table.specs.Hands.{are_hands}
-use Rattle.bus_table.specs.Tables.{Hand, Sender, Table}
+use Rattle.bus_table.specs.Tables.{Sender, Table}
 use Rattle.bus_table.specs.Valid.{is_valid}
-use Rattle.bus_timers.specs.declared.timing.Timing.{Timing}
-use Rattle.bus_timers.specs.MayStart.{IsQuiet, IsSync}
-use Rattle.bus_timers.specs.MayStartTest.{may_start}
-use Rattle.bus_timers.specs.Timings.{due_place}
 use Rattle.bus_regime.specs.Lines.{verdict_words}
 use Rattle.bus_regime.specs.Verdicts.{verdict_of}
 use Rattle.bus_trace.specs.Runs.{HasNoFeed}
 use Rattle.bus_trace.specs.Traces.{Recording, IsTrace}
 use Rattle.bus_trace.specs.Windows.{IsWindow, Window, holds as holds_time, whole}
-use Rattle.bus_medium.specs.Lawful.{HasEntry, IsLawful, Station}
-use Rattle.bus_medium.specs.Past.{last_place, own, past}
-use Rattle.bus_medium.specs.Timings.{quiet_of, stations_of, timing_of}
 use Rattle.bus_dump.specs.declared.dump.Dump.{Dump}
-use Rattle.bus_dump.specs.declared.dump.Dump.TheVariants.{Timers}
 use Rattle.bus_dump.specs.Doubled.{doubled}
 use Rattle.bus_dump.specs.DumpTexts.{changes, changes_at, dump_text, end_of_dump, id_text, name_text, stamp, units, value_line}
 use Rattle.bus_dump.specs.Lanes.{Lane, is_sender, lanes, sends}
@@ -32,8 +22,8 @@ use Rattle.bus_dump.specs.OnBus.{Bit as StringBit, bit_at, label_value, sync_bit
 use Rattle.bus_dump.specs.Reading.{identifier, read_named}
 use Rattle.bus_dump.specs.Scenes.{Scene, scene_at}
 use Rattle.bus_dump.specs.Seen.{holds, number_of}
-use Rattle.bus_dump.specs.Signals.{Signal, Carrier, Overlap, Sync, Breach, Word, Pulse, Garbled, Label, Message, Interval, Synchronization}
-use Rattle.bus_dump.specs.Signals.{Gap, May, Bit, Floating, Number, Unknown, has, signals, value}
+use Rattle.bus_dump.specs.Signals.{Signal, Carrier, Overlap, Sync, Breach, Word, Pulse, Garbled, Label, Message, Bit, Floating, Number}
+use Rattle.bus_dump.specs.Signals.{Unknown, has, signals, value}
 use Rattle.bus_dump.specs.Stamps.{StampsAre, stamped}
 
 -- ---- texts
@@ -263,59 +253,6 @@ abbrev pub ClearListsShowNone : Type 0
 ClearListsShowNone =
     (dump : Dump) (breach : Option ℕ) (table : Table) (list : List Entry) (t : ℕ) → IsOrdered (λ x y. overlaps x y ≡ false) list
     → ShowsNoOverlap dump breach table list t
-
--- ---- timers
--- A sender may start where its timers allow it, after the past of the list.
-abbrev pub StartsAreTold : Type 0
-StartsAreTold =
-    (breach : Option ℕ) (table : Table) (list : List Entry) (t : ℕ) (sender : Sender) → IsTrue (is_valid table) → In sender table.senders
-    → value (May sender.number) (scene_at Timers breach table list t)
-    ≡ Bit (may_start (timing_of table sender) (past (quiet_of table) list t)
-    (last_place (quiet_of table) (own list sender.number t)))
-
--- The synchronization gap has elapsed somewhere in the past, with room for so many bit times behind it.
-abbrev pub Synchronizes : ℕ → ℕ → List Bool → Option ℕ → Type 0
-Synchronizes sg room heard last = (e : ℕ) × (e + room ≤ length heard) × IsSync sg heard last e
-
--- The terminal gap has elapsed: what `MayStart` asks besides the transmit interval.
-pub record GapElapsed (timing : Timing) (heard : List Bool) (last : Option ℕ) : Type 0 where
-  pub synchronized : Synchronizes timing.sg timing.tg heard last
-  pub gap_fits : timing.tg ≤ length heard
-  pub gap : IsQuiet heard (length heard - timing.tg) (length heard)
-
--- The wires of the timers of the sender with this number, after what it has heard and the place of its last own start. It may start where
--- the transmit interval and the terminal gap have elapsed, and this gap has only where the synchronization gap has.
-pub record TimersAgree (scene : Scene) (number : ℕ) (timing : Timing) (heard : List Bool) (last : Option ℕ) : Type 0 where
-  pub interval : (value (Interval number) scene ≡ Bit true) ↔ (due_place timing last ≤ length heard)
-  pub synchronization : (value (Synchronization number) scene ≡ Bit true) ↔ Synchronizes timing.sg 0 heard last
-  pub gap : (value (Gap number) scene ≡ Bit true) ↔ GapElapsed timing heard last
-  pub may : (value (May number) scene ≡ Bit true)
-      ↔ ((value (Interval number) scene ≡ Bit true) × (value (Gap number) scene ≡ Bit true))
-  pub behind : value (Gap number) scene ≡ Bit true → value (Synchronization number) scene ≡ Bit true
-
--- At each bit time the timers of each sender agree with what it has heard.
-abbrev pub TimersAreTold : Type 0
-TimersAreTold =
-    (breach : Option ℕ) (table : Table) (list : List Entry) (t : ℕ) (sender : Sender) → IsTrue (is_valid table) → In sender table.senders
-    → TimersAgree (scene_at Timers breach table list t) sender.number (timing_of table sender) (past (quiet_of table) list t)
-    (last_place (quiet_of table) (own list sender.number t))
-
--- Of what the senders of a table send by their timers, a sender starts exactly where the wire says that it may and it has a message left.
-abbrev pub StartsAreSeen : Type 0
-StartsAreSeen =
-    (breach : Option ℕ) (table : Table) (hands : List Hand) (horizon : ℕ) (list : List Entry) (t : ℕ) (station : Station)
-    → IsTrue (is_valid table)
-    → IsTrue (are_hands table.senders hands) → IsLawful (quiet_of table) (stations_of table hands) horizon list → t < horizon
-    → In station (stations_of table hands)
-    → HasEntry list station.number t
-    ↔ ((value (May station.number) (scene_at Timers breach table list t) ≡ Bit true)
-    × (length (own list station.number t) < length station.hand))
-
--- What the senders of a table send by their timers is never doubled, whatever hands they have.
-abbrev pub LawfulIsSingle : Type 0
-LawfulIsSingle =
-    (table : Table) (hands : List Hand) (horizon : ℕ) (list : List Entry) → IsTrue (is_valid table) → IsTrue (are_hands table.senders hands)
-    → IsLawful (quiet_of table) (stations_of table hands) horizon list → doubled list ≡ None
 
 -- ---- nothing is lost
 -- A trace is shown whole: no two of its transmissions overlap, and each has ended by the horizon.

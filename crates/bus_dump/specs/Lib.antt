@@ -11,5 +11,6 @@ pub mod SaveFiles
 pub mod Reading
 pub mod Stamps
 pub mod Laws
+pub mod TimerLaws
 pub mod SaveLaws
 pub mod inside

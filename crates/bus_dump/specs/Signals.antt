@@ -5,7 +5,7 @@ use Rattle.std.specs.List.{list_any, find, filter_map, flat_map}
 use Rattle.std.specs.Option.{option_map, option_map_or, is_some}
 use Rattle.bus_dump.specs.declared.dump.Dump.{Dump}
 use Rattle.bus_dump.specs.declared.dump.Dump.TheVariants.{Vcd, Wires, Timers}
-use Rattle.bus_dump.specs.declared.clock.Elapsed.{Elapsed}
+use Rattle.bus_dump.specs.declared.sender_timers.Elapsed.{Elapsed}
 use Rattle.bus_dump.specs.declared.lane.Lane.{Lane}
 use Rattle.bus_dump.specs.declared.shown.Seen.{Seen}
 use Rattle.bus_dump.specs.declared.shown.Shown.{Shown}

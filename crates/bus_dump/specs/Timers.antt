@@ -5,7 +5,7 @@ use Rattle.std.specs.List.{list_any, range_with_len}
 use Rattle.bus_timers.specs.declared.timing.Timing.{Timing}
 use Rattle.bus_timers.specs.Timings.{due_place}
 use Rattle.bus_timers.specs.MayStartTest.{is_quiet, is_sync, may_start}
-pub use Rattle.bus_dump.specs.declared.clock.Elapsed.{Elapsed}
+pub use Rattle.bus_dump.specs.declared.sender_timers.Elapsed.{Elapsed}
 
 -- Whether its transmit interval has elapsed.
 abbrev pub has_interval : Timing → List Bool → Option ℕ → Bool

@@ -5,7 +5,7 @@ ghost use Rattle.bus_outer.specs.Texts.{Adds};
 ghost use Rattle.bus_dump.specs.DumpTexts as texts;
 ghost use Rattle.bus_dump.specs.declared.value.Value.TheVariants as values;
 ghost use Rattle.bus_dump.specs.inside.Walks.{change_put};
-ghost use Rattle.bus_dump.specs.inside.Watching.{scene_of};
+ghost use Rattle.bus_dump.specs.inside.TimerWalks.{scene_of};
 
 use crate::binary::put_binary;
 use crate::declaration::put_id;

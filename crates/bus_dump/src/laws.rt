@@ -1,10 +1,13 @@
 //! Laws of dumps, their lanes and their save files. Each is the contract of a function that does nothing.
 ghost use Rattle.bus_dump.specs.Laws.{BitsArePulses, BreachIsTold, CarrierIsTold, ClearListsShowNone, DumpsAreRead};
 ghost use Rattle.bus_dump.specs.Laws.{GarbledAreTold};
-ghost use Rattle.bus_dump.specs.Laws.{IdentifiersDiffer, LabelsAreTold, LanesAreTerminals, LawfulIsSingle, MessagesAreTold};
+ghost use Rattle.bus_dump.specs.Laws.{IdentifiersDiffer, LabelsAreTold, LanesAreTerminals, MessagesAreTold};
+ghost use Rattle.bus_dump.specs.TimerLaws.{LawfulIsSingle};
 ghost use Rattle.bus_dump.specs.Laws.{NamesAreDeclared, NothingIsIdle, NothingIsLost, NothingWrittenIsLost, OverlapsAreTold};
-ghost use Rattle.bus_dump.specs.Laws.{OverlapsGarble, PulsesAreTold, StampsAreTold, StartsAreSeen, StartsAreTold, SyncIsTold};
-ghost use Rattle.bus_dump.specs.Laws.{TimersAreTold, WordIsTold, WrittenDumpsAreRead, WrittenStampsAreTold};
+ghost use Rattle.bus_dump.specs.Laws.{OverlapsGarble, PulsesAreTold, StampsAreTold, SyncIsTold};
+ghost use Rattle.bus_dump.specs.TimerLaws.{StartsAreSeen, StartsAreTold};
+ghost use Rattle.bus_dump.specs.Laws.{WordIsTold, WrittenDumpsAreRead, WrittenStampsAreTold};
+ghost use Rattle.bus_dump.specs.TimerLaws.{TimersAreTold};
 ghost use Rattle.bus_dump.specs.SaveLaws.{AllAreShown, BreachIsFirst, BreachIsOpen, FewAreOpen, FirstAreOpen, OpensOnAll};
 
 use crate::comment::holds_no_feed;

@@ -8,7 +8,7 @@ ghost use Rattle.bus_dump.specs.inside.Layouts as layouts;
 ghost use Rattle.bus_dump.specs.inside.Layouts.{IsStill, LeavesStill};
 ghost use Rattle.bus_dump.specs.Signals as signals;
 ghost use Rattle.bus_dump.specs.inside.Walks.{change_put};
-ghost use Rattle.bus_dump.specs.inside.Watching.{TellsAs, scene_of};
+ghost use Rattle.bus_dump.specs.inside.TimerWalks.{TellsAs, scene_of};
 
 use crate::change::{any_changed, put_changed, put_lines, put_stamp};
 use crate::declaration::put_declarations;

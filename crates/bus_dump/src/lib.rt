@@ -9,20 +9,18 @@
 //! The definitions are in `specs/`, by bit times: `OnBus` (what a message has on the bus), `Seen` (what is seen of a list at a bit
 //! time), `Timers` (what the timers of a sender tell), `Scenes` (both), `Signals` (the value of each signal of that), `Lanes` (the
 //! terminals that have signals), `Doubled`, `DumpTexts` (the text), `Reading` (what a reader of such a text finds), `Stamps` (the times
-//! of its lines), `SaveFiles`, and `Laws` (what follows of all these).
+//! of its lines), `SaveFiles`, and `Laws`, `TimerLaws` and `SaveLaws` (what follows of all these).
 //! No call takes memory.
 #![tactic(auto)]
 
+mod all_timers;
 mod binary;
 mod breach;
 mod change;
-mod clock;
-mod clocks;
 mod comment;
 mod declaration;
 mod doubling;
 mod dump;
-mod glance;
 mod head;
 mod lane;
 mod lanes;
@@ -33,12 +31,14 @@ mod look;
 mod opening;
 mod save_file;
 mod scene;
+mod sender_timers;
 mod shown;
+mod shown_stretch;
 mod signal;
+mod timer_walk;
 mod touched;
 mod value;
 mod walk;
-mod watch;
 mod writing;
 
 pub use breach::FirstBreach;

@@ -4,9 +4,9 @@ ghost use Rattle.std.specs.List.{AllByRecursion, filter_map};
 ghost use Rattle.bus_strings.specs.Transmissions.{end_of};
 ghost use Rattle.bus_dump.specs.inside.Walks.{IsLive, IsSteady, StaysTo, see, sight_of};
 
-use crate::glance::glance_at;
 use crate::live::Live;
 use crate::shown::Seen;
+use crate::shown_stretch::stretch_at;
 use arrayvec::ArrayVec;
 use bus_strings::Transmission;
 use bus_strings::limits::TERMINALS;
@@ -35,16 +35,16 @@ fn see_one(x: &Transmission, one: &Live, t: u64) -> Sight
     ensures later { t < result.until }
     ensures steady { StaysTo x.now t result.until }
 {
-    let glance = glance_at(&x.message, t - x.moment);
+    let stretch = stretch_at(&x.message, t - x.moment);
     let seen = Seen {
         terminal: x.terminal,
         number: one.number,
         garbled: one.garbled,
-        shown: glance.shown,
+        shown: stretch.shown,
     };
     Sight {
         seen,
-        until: t + glance.left,
+        until: t + stretch.left,
     }
 }
 

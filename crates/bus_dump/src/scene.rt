@@ -2,9 +2,9 @@
 ghost use Rattle.std.specs.Prelude.{◌≡◌, []};
 ghost use Rattle.std.specs.List.{list_any};
 ghost use Rattle.bus_dump.specs.Signals as signals;
-ghost use Rattle.bus_dump.specs.inside.Watching.{TellsAs, scene_of};
+ghost use Rattle.bus_dump.specs.inside.TimerWalks.{TellsAs, scene_of};
 
-use crate::clock::Elapsed;
+use crate::sender_timers::Elapsed;
 use crate::shown::Seen;
 use arrayvec::ArrayVec;
 use bus_strings::limits::TERMINALS;

@@ -3,10 +3,10 @@ ghost use Rattle.std.specs.Prelude.{◌≡◌, ◌<◌, ℕ, false, length, slic
 ghost use Rattle.std.specs.List.{find, list_any};
 ghost use Rattle.bus_dump.specs.inside.Layouts.{LeavesStill};
 ghost use Rattle.bus_dump.specs.Signals as signals;
-ghost use Rattle.bus_dump.specs.inside.Watching.{TellsAs, scene_of};
+ghost use Rattle.bus_dump.specs.inside.TimerWalks.{TellsAs, scene_of};
 
-use crate::clock::Elapsed;
 use crate::scene::Scene;
+use crate::sender_timers::Elapsed;
 use crate::shown::Seen;
 
 /// One more than the greatest number of a byte.

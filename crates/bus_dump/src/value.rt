@@ -3,10 +3,10 @@ ghost use Rattle.std.specs.Prelude.{◌≡◌, ◌&&◌};
 ghost use Rattle.std.specs.List.{list_any};
 ghost use Rattle.bus_dump.specs.Signals as signals;
 ghost use Rattle.bus_dump.specs.inside.Walks.{with_word};
-ghost use Rattle.bus_dump.specs.inside.Watching.{scene_of};
+ghost use Rattle.bus_dump.specs.inside.TimerWalks.{scene_of};
 
-use crate::clock::Elapsed;
 use crate::scene::{Scene, has_carrier};
+use crate::sender_timers::Elapsed;
 use crate::shown::Seen;
 use crate::signal::Signal;
 

@@ -6,7 +6,7 @@ ghost use Rattle.bus_dump.specs.Doubled.{doubled};
 ghost use Rattle.bus_dump.specs.DumpTexts.{end_of_dump, first_values, last_stamp, verdict_dump};
 ghost use Rattle.bus_dump.specs.inside.Layouts.{bit_times_put, layout_signals};
 ghost use Rattle.bus_dump.specs.inside.Walks.{IsWalkable};
-ghost use Rattle.bus_dump.specs.inside.Watching.{IsReady, IsTold, IsWatch, Keeping, scene_of};
+ghost use Rattle.bus_dump.specs.inside.TimerWalks.{IsReady, IsTold, IsTimerWalk, Keeping, scene_of};
 ghost use Rattle.bus_dump.specs.Scenes.{timed};
 
 use crate::change::put_stamp;
@@ -14,7 +14,7 @@ use crate::dump::Dump;
 use crate::head::put_head;
 use crate::layout::Layout;
 use crate::scene::Scene;
-use crate::watch::Watch;
+use crate::timer_walk::TimerWalk;
 use bus_outer::{Sink, TextBuffer, WriteFault};
 use bus_regime::TableVerdict;
 use bus_strings::Transmission;
@@ -35,32 +35,32 @@ fn put_first<K: Sink>(text: &mut TextBuffer, sink: &mut K, layout: &Layout, scen
     text.put(sink, b"$end\n");
 }
 
-/// A watch over a list at a bit time, and what it saw last.
-fn watch_from<'a>(
+/// A walk with timers over a list at a bit time, and what it saw last.
+fn timer_walk_from<'a>(
     dump: Dump,
     breach: Option<u64>,
     table: &Table,
     list: &'a [Transmission],
     from: u64,
     now: &mut Scene,
-) -> Watch<'a>
+) -> TimerWalk<'a>
     requires walkable { IsWalkable list.now }
     requires low { from ≤ 2 ^ 40 }
     ensures list { result.walk.list.now ≡ list.now }
     ensures breach { result.breach ≡ breach }
-    ensures watch { IsWatch from result }
+    ensures timer_walk { IsTimerWalk from result }
     ensures ready { IsReady from result }
     ensures timers { result.since < from → IsTold table.now (timed dump table.now) result now.new.timers.items }
     ensures keeping { Keeping table.now (timed dump table.now) result }
 {
-    let mut watch = Watch::new(dump, breach, table, list);
+    let mut timer_walk = TimerWalk::new(dump, breach, table, list);
     let mut t = 0;
     while t < from {
-        let until = watch.look(t, from, now);
-        watch.go_on(t, until);
+        let until = timer_walk.look(t, from, now);
+        timer_walk.go_on(t, until);
         t = until;
     }
-    watch
+    timer_walk
 }
 
 /// The values at bit time `from`, and what changes behind it to below `end`.
@@ -84,9 +84,9 @@ fn put_bit_times<K: Sink>(
     let limit = end.max(from + 1);
     let mut before = Scene::new();
     let mut now = Scene::new();
-    let mut watch = watch_from(layout.dump, breach, table, list, from, &mut now);
+    let mut timer_walk = timer_walk_from(layout.dump, breach, table, list, from, &mut now);
     let mut t = from;
-    let mut until = watch.look(t, limit, &mut now);
+    let mut until = timer_walk.look(t, limit, &mut now);
     put_first(text, sink, layout, &now, t);
     now.told = true;
     while until < end {
@@ -94,9 +94,9 @@ fn put_bit_times<K: Sink>(
             return;
         }
         before.take_over(&now);
-        watch.go_on(t, until);
+        timer_walk.go_on(t, until);
         t = until;
-        until = watch.look(t, limit, &mut now);
+        until = timer_walk.look(t, limit, &mut now);
         layout.put_changes(text, sink, &before, &now, t);
     }
 }

@@ -1,9 +1,10 @@
 -- What a page ends with: the text that was given, and what stands behind the page.
 --   program   what wrote it: its name and its version
 --   bytes     the text as it was given
-use Rattle.std.specs.Prelude.{ℕ, ◌/◌, ◌%◌, ◌==◌, List, [], ◌∷◌, ◌++◌, length, codes, decimal, if◌then◌else◌}
+use Rattle.std.specs.Prelude.{ℕ, ◌/◌, ◌%◌, ◌==◌, List, [], ◌∷◌, ◌++◌, length, codes, if◌then◌else◌}
 use Rattle.std.specs.List.{flat_map}
 use Rattle.bus_text.specs.Digits.{hexadecimal}
+use Rattle.bus_shapes.specs.Sayings.{plainly_counted}
 use Rattle.bus_page.specs.Checksums.{checksum}
 use Rattle.bus_page.specs.Heads.{figure, section_text}
 
@@ -17,7 +18,8 @@ premises_text =
     ++ codes "<li>The tolerance, and ages with delays up to it, rest on exact clocks and as many messages for each sender; in aperiodic\n"
     ++ codes "mode on power-ups within the tolerance of one another, in periodic mode on the settled start.</li>\n"
     ++ codes "<li>The level is of a bus within the bounds that stand with it, on which nothing else is heard, as long as messages are\n"
-    ++ codes "left. At a common start all are powered up within that delay of the first sender, with as many messages for each.</li>\n</ul>\n"
+    ++ codes "left. At a common start all are powered up within that delay of the first sender, with as many messages for each.</li>\n"
+    ++ codes "</ul>\n"
 
 -- The same under its heading.
 abbrev pub resting_text : List ℕ
@@ -43,7 +45,7 @@ abbrev pub program_figure : (program : List ℕ) → List ℕ
 program_figure program = figure (codes "written by") program
 
 abbrev pub length_figure : (bytes : List ℕ) → List ℕ
-length_figure bytes = figure (codes "length of the text") (decimal (length bytes) ++ codes " bytes")
+length_figure bytes = figure (codes "length of the text") (plainly_counted (length bytes) (codes "byte"))
 
 -- A number in eight hexadecimal digits.
 abbrev pub eight_digits : ℕ → List ℕ
@@ -56,7 +58,8 @@ checksum_figure bytes = figure (codes "CRC-32 of its bytes") (eight_digits (chec
 unfoldable pub build_text : List ℕ
 build_text =
     codes "<p>That a page is exactly the text defined of its table is proved of the sources of this program. Neither that the program\n"
-    ++ codes "was built of them nor by which version of its kit, Rattle, can a page tell: in the project's folder <code>./bus629-view</code>\n"
+    ++ codes "was built of them nor by which version of its kit, Rattle, can a page tell: in the project's folder "
+    ++ codes "<code>./bus629-view</code>\n"
     ++ codes "says on standard error where it runs a quick build, of which nothing is proved.</p>\n"
 
 -- All of it.

@@ -1,7 +1,8 @@
 //! What a page ends with: the text that was given, and what stands behind the page.
-ghost use Rattle.std.specs.Prelude.{◌≡◌, ◌<◌};
+ghost use Rattle.std.specs.Prelude.{◌≡◌, ◌<◌, codes};
 ghost use Rattle.bus_outer.specs.Texts.{Adds};
 ghost use Rattle.bus_outer.specs.Sinks.{WritesText};
+ghost use Rattle.bus_shapes.specs.Sayings.{plainly_counted};
 ghost use Rattle.bus_page.specs.Feet as definition;
 
 use crate::checksum::checksum;
@@ -85,13 +86,24 @@ fn put_program<K: Sink>(text: &mut TextBuffer, sink: &mut K, program: &[u8])
     end_figure(text, sink);
 }
 
+/// Puts so many bytes.
+fn put_byte_count<K: Sink>(text: &mut TextBuffer, sink: &mut K, count: usize)
+    ensures { Adds K.held K.faults sink.old sink.new text.old text.new (plainly_counted count (codes "byte")) }
+{
+    text.put_number(sink, count);
+    if count == 1 {
+        text.put(sink, b" byte");
+    } else {
+        text.put(sink, b" bytes");
+    }
+}
+
 /// Puts how long the text is.
 fn put_length<K: Sink>(text: &mut TextBuffer, sink: &mut K, bytes: &[u8])
     ensures { Adds K.held K.faults sink.old sink.new text.old text.new (definition.length_figure bytes.now) }
 {
     begin_figure(text, sink, b"length of the text");
-    text.put_number(sink, bytes.len());
-    text.put(sink, b" bytes");
+    put_byte_count(text, sink, bytes.len());
     end_figure(text, sink);
 }
 

@@ -5,7 +5,7 @@ use Rattle.std.proofs.lemmas.Bool.{cases_lt}
 use Rattle.bus_dump.specs.declared.lane.Lane.{Lane}
 use Rattle.bus_shapes.specs.declared.scale.Scale.{Scale}
 use Rattle.bus_strings.specs.Members.{In}
-use Rattle.bus_picture.specs.Boxes.{Pile, is_thin, pile_height, share_height}
+use Rattle.bus_picture.specs.Boxes.{Cluster, is_thin, cluster_height, share_height}
 use Rattle.bus_picture.specs.Laws.{BoxesLieInRows, BreachesHideNoBox, IntervalWordsHideNoBox}
 use Rattle.bus_picture.specs.declared.measures.TheConstants.{PLOT_TOP as plot_top, ROW_HEIGHT as row_height}
 use Rattle.bus_picture.specs.Rows.{Row}
@@ -16,11 +16,11 @@ by_share share true h = h
 by_share share false h = omega arith
 
 -- A box is no higher than it may be.
-height_within : (scale : Scale) (pile : Pile) → pile_height scale pile ≤ 180
-height_within scale pile = by_share (share_height scale pile) (is_thin scale pile.first) (omega arith)
+height_within : (scale : Scale) (cluster : Cluster) → cluster_height scale cluster ≤ 180
+height_within scale cluster = by_share (share_height scale cluster) (is_thin scale cluster.first) (omega arith)
 
 pub boxes_lie_in_rows : BoxesLieInRows
-boxes_lie_in_rows scale row pile = let high : pile_height scale pile ≤ 180 = height_within scale pile in (omega arith, omega arith)
+boxes_lie_in_rows scale row cluster = let high : cluster_height scale cluster ≤ 180 = height_within scale cluster in (omega arith, omega arith)
 
 -- A row begins a whole number of rows below the plot's upper edge.
 record IsPlace (row : Row) : Type 0 where
@@ -51,18 +51,18 @@ apart from high below tall n k where' low most =
     ]
 
 pub breaches_hide_no_box : BreachesHideNoBox
-breaches_hide_no_box scale lanes row pile left width i =
+breaches_hide_no_box scale lanes row cluster left width i =
     let p : IsPlace row = placed lanes row i in
     let top : row.top ≡ 1170 + 320 * p.number = p.top in
-    let high : pile_height scale pile ≤ 180 = height_within scale pile in
-    let from : ℕ = 60 + (180 - pile_height scale pile) in (
+    let high : cluster_height scale cluster ≤ 180 = height_within scale cluster in
+    let from : ℕ = 60 + (180 - cluster_height scale cluster) in (
       record {
         head = inl (omega arith);
-        upper = λ k. elim (apart from (pile_height scale pile) 0 60 p.number k (inl (omega arith)) (omega arith) (omega arith)) [
+        upper = λ k. elim (apart from (cluster_height scale cluster) 0 60 p.number k (inl (omega arith)) (omega arith) (omega arith)) [
           | inl above ↦ inl (omega arith)
           | inr under ↦ inr (omega arith)
         ];
-        lower = λ k. elim (apart from (pile_height scale pile) 240 80 p.number k (inr (omega arith, omega arith)) (omega arith) (omega arith)) [
+        lower = λ k. elim (apart from (cluster_height scale cluster) 240 80 p.number k (inr (omega arith, omega arith)) (omega arith) (omega arith)) [
           | inl above ↦ inl (omega arith)
           | inr under ↦ inr (omega arith)
         ];
@@ -71,10 +71,10 @@ breaches_hide_no_box scale lanes row pile left width i =
     )
 
 pub interval_words_hide_no_box : IntervalWordsHideNoBox
-interval_words_hide_no_box scale lanes row pile i =
+interval_words_hide_no_box scale lanes row cluster i =
     let p : IsPlace row = placed lanes row i in
     let top : row.top ≡ 1170 + 320 * p.number = p.top in
-    let high : pile_height scale pile ≤ 180 = height_within scale pile in
+    let high : cluster_height scale cluster ≤ 180 = height_within scale cluster in
     elim (cases_lt p.number 1) [
       | inl before ↦ inl (omega arith)
       | inr later ↦ inr (omega arith)

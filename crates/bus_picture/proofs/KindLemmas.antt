@@ -14,7 +14,7 @@ use Rattle.bus_shapes.specs.Sending.{sent_of, sents, sents_from}
 use Rattle.bus_picture.specs.Gaps.{Heard, heard_of, is_first}
 use Rattle.bus_picture.specs.Intervals.{last_start}
 use Rattle.bus_picture.specs.Kinds.{has_gap_before, has_interval_before, is_gap, is_interval}
-use Rattle.bus_picture.specs.Timers.{Track}
+use Rattle.bus_picture.specs.Timers.{LaneTimings}
 use Rattle.bus_picture.specs.inside.Starting.{Hearing, any_first, heard_gap, is_gap_before, is_interval_before}
 use Rattle.bus_picture.proofs.IntervalLemmas.{sent_in}
 use Rattle.bus_picture.proofs.StartLemmas.{take_next, told_push, within_list}
@@ -48,15 +48,15 @@ one_settles test list k x at here =
     any_in test (sents list) (sent_of list k x) (subst (λ j. In (sent_of list j x) (sents list)) whole (sent_in list 0 k list x at)) here
 
 -- ---- what a walk knows
-pub same_gap : (scale : Scale) (list : List Entry) (track : Track) (h : Hearing) (k : ℕ) (x : Entry) → h.first ≡ is_first list (sent_of list k x)
-    → h.before ≡ heard_of track.quiet track.sg track.terminal x.moment (take k list) → h.moment ≡ x.moment
-    → is_gap_before scale track h ≡ has_gap_before scale list track (sent_of list k x)
-same_gap scale list track h k x first before moment =
-    ap (λ b. b && is_gap scale (heard_gap track h.before h.moment)) first
-    ∙ ap (λ (e : Heard). is_first list (sent_of list k x) && is_gap scale (heard_gap track e h.moment)) before
-    ∙ ap (λ t. is_first list (sent_of list k x) && is_gap scale (heard_gap track (heard_of track.quiet track.sg track.terminal x.moment (take k list)) t)) moment
+pub same_gap : (scale : Scale) (list : List Entry) (timings : LaneTimings) (h : Hearing) (k : ℕ) (x : Entry) → h.first ≡ is_first list (sent_of list k x)
+    → h.before ≡ heard_of timings.quiet timings.sg timings.terminal x.moment (take k list) → h.moment ≡ x.moment
+    → is_gap_before scale timings h ≡ has_gap_before scale list timings (sent_of list k x)
+same_gap scale list timings h k x first before moment =
+    ap (λ b. b && is_gap scale (heard_gap timings h.before h.moment)) first
+    ∙ ap (λ (e : Heard). is_first list (sent_of list k x) && is_gap scale (heard_gap timings e h.moment)) before
+    ∙ ap (λ t. is_first list (sent_of list k x) && is_gap scale (heard_gap timings (heard_of timings.quiet timings.sg timings.terminal x.moment (take k list)) t)) moment
 
-pub same_interval : (scale : Scale) (list : List Entry) (track : Track) (last : Option ℕ) (k : ℕ) (x : Entry)
-    → last ≡ last_start track.terminal (take k list)
-    → is_interval_before scale track last x ≡ has_interval_before scale list track (sent_of list k x)
-same_interval scale list track last k x is = ap (λ (o : Option ℕ). x.terminal == track.terminal && is_interval scale track o (Some x.moment)) is
+pub same_interval : (scale : Scale) (list : List Entry) (timings : LaneTimings) (last : Option ℕ) (k : ℕ) (x : Entry)
+    → last ≡ last_start timings.terminal (take k list)
+    → is_interval_before scale timings last x ≡ has_interval_before scale list timings (sent_of list k x)
+same_interval scale list timings last k x is = ap (λ (o : Option ℕ). x.terminal == timings.terminal && is_interval scale timings o (Some x.moment)) is

@@ -18,7 +18,7 @@ use Rattle.bus_shapes.specs.Sending.{sents, sents_from}
 use Rattle.bus_shapes.specs.SendingLaws.{IsToldOf}
 use Rattle.bus_shapes.specs.Measures.{pixel}
 use Rattle.bus_shapes.specs.Scales.{place}
-use Rattle.bus_picture.specs.Boxes.{Box, Pile, boxes, boxes_from, bucket, grown, is_close, is_narrow, is_thin, joins, members, one, pile_of}
+use Rattle.bus_picture.specs.Boxes.{Box, Cluster, boxes, boxes_from, bucket, grown, is_close, is_narrow, is_thin, joins, members, one, cluster_of}
 use Rattle.bus_picture.specs.Rows.{Row, box_class, garbled_class, is_of, plain_class, shown, shows}
 use Rattle.bus_picture.specs.Strings.{meets}
 use Rattle.bus_picture.specs.Laws.{AreClose, BoxesCoverNoQuiet, BoxesHoldRows, BoxesHoldTheirs, HatchedAreGarbled, HoldsIts}
@@ -38,7 +38,7 @@ by_joins scale box y ys false more new = ap (λ (l : List Sent). members box ++ 
 
 held : (scale : Scale) (box : Box) (ys : List Sent) → flat_map members (boxes_from scale box ys) ≡ members box ++ ys
 held scale box [] = refl
-held scale box (y ∷ ys) = by_joins scale box y ys (joins scale (pile_of box) y) (held scale (longer box y) ys) (held scale (single y) ys)
+held scale box (y ∷ ys) = by_joins scale box y ys (joins scale (cluster_of box) y) (held scale (longer box y) ys) (held scale (single y) ys)
 
 all_held : (scale : Scale) (xs : List Sent) → flat_map members (boxes scale xs) ≡ xs
 all_held scale [] = refl
@@ -85,7 +85,7 @@ hatched_are_garbled told scale row list box x i j =
     let kept = from_filter (shows scale row) (sents list) x all in
     let t : IsToldOf list x = told list x kept.0 in
     let mark : row.garbled ≡ garbled list x.at = as_row scale row x kept.1 ∙ ap (λ (s : Sent). s.garbled) t.told in
-    (t, subst (λ b. (is_hatched (box_class scale row (pile_of box)) ≡ true) ↔ (b ≡ true)) mark (hatched_by row.garbled row.terminal (is_narrow scale (pile_of box).first)))
+    (t, subst (λ b. (is_hatched (box_class scale row (cluster_of box)) ≡ true) ↔ (b ≡ true)) mark (hatched_by row.garbled row.terminal (is_narrow scale (cluster_of box).first)))
 
 -- ---- from the first to the last
 abbrev pub IsBehind : ℕ → Sent → Type 0
@@ -132,7 +132,7 @@ led : (scale : Scale) (box : Box) (ys : List Sent) → IsFirst box → AllByRecu
     → AllByRecursion IsFirst (boxes_from scale box ys)
 led scale box [] h later order = (h, tt)
 led scale box (y ∷ ys) h later order =
-    first_by scale box y ys (joins scale (pile_of box) y) h
+    first_by scale box y ys (joins scale (cluster_of box) y) h
     (led scale (longer box y) ys (all_push (IsBehind box.first.moment) box.others y h later.0) later.1 order.1)
     (led scale (single y) ys tt order.0 order.1)
 
@@ -169,17 +169,17 @@ ends_one end (x ∷ xs) =
       | inr one ↦ inr (one.0, inr one.1, one.2)
     ]
 
-grown_end : (pile : Pile) (xs : List Sent) → (fold grown pile xs).end ≡ end_from pile.end xs
-grown_end pile [] = refl
-grown_end pile (x ∷ xs) = grown_end (grown pile x) xs
+grown_end : (cluster : Cluster) (xs : List Sent) → (fold grown cluster xs).end ≡ end_from cluster.end xs
+grown_end cluster [] = refl
+grown_end cluster (x ∷ xs) = grown_end (grown cluster x) xs
 
-grown_count : (pile : Pile) (xs : List Sent) → (fold grown pile xs).count ≡ pile.count + length xs
-grown_count pile [] = omega arith
-grown_count pile (x ∷ xs) = omega (arith, grown_count (grown pile x) xs)
+grown_count : (cluster : Cluster) (xs : List Sent) → (fold grown cluster xs).count ≡ cluster.count + length xs
+grown_count cluster [] = omega arith
+grown_count cluster (x ∷ xs) = omega (arith, grown_count (grown cluster x) xs)
 
 holds_its : (box : Box) → IsFirst box → HoldsIts box
 holds_its box h =
-    let is : (pile_of box).end ≡ end_from box.first.end box.others = grown_end (one box.first) box.others in
+    let is : (cluster_of box).end ≡ end_from box.first.end box.others = grown_end (one box.first) box.others in
     let end = ends_one box.first.end box.others in
     let last : EndsOne (end_from box.first.end box.others) (members box) =
     elim end [ inl same ↦ (box.first, inl refl, sym same) | inr one ↦ (one.0, inr one.1, one.2) ] in
@@ -193,19 +193,19 @@ holds_its box h =
     }
 
 -- ---- no quiet in a box
-close_push : (scale : Scale) (pile : Pile) (xs : List Sent) (y : Sent) → AreClose scale pile xs
-    → place scale y.moment < place scale (fold grown pile xs).end + pixel → AreClose scale pile (xs ++ y ∷ [])
-close_push scale pile [] y h close = (close, tt)
-close_push scale pile (x ∷ xs) y h close = (h.0, close_push scale (grown pile x) xs y h.1 close)
+close_push : (scale : Scale) (cluster : Cluster) (xs : List Sent) (y : Sent) → AreClose scale cluster xs
+    → place scale y.moment < place scale (fold grown cluster xs).end + pixel → AreClose scale cluster (xs ++ y ∷ [])
+close_push scale cluster [] y h close = (close, tt)
+close_push scale cluster (x ∷ xs) y h close = (h.0, close_push scale (grown cluster x) xs y h.1 close)
 
 abbrev IsClose : Scale → Box → Type 0
 IsClose scale box = AreClose scale (one box.first) box.others
 
-close_by : (scale : Scale) (box : Box) (y : Sent) (ys : List Sent) (j : Bool) → joins scale (pile_of box) y ≡ j → IsClose scale box
+close_by : (scale : Scale) (box : Box) (y : Sent) (ys : List Sent) (j : Bool) → joins scale (cluster_of box) y ≡ j → IsClose scale box
     → (IsClose scale (longer box y) → AllByRecursion (IsClose scale) (boxes_from scale (longer box y) ys)) → AllByRecursion (IsClose scale) (boxes_from scale (single y) ys)
     → AllByRecursion (IsClose scale) (cond j (boxes_from scale (longer box y) ys) (box ∷ boxes_from scale (single y) ys))
 close_by scale box y ys true is h more new =
-    let p : Pile = pile_of box in
+    let p : Cluster = cluster_of box in
     let close : is_close scale p.end y ≡ true =
     (and_parts (is_thin scale p.first && is_thin scale y && nat_eq (bucket scale p.first) (bucket scale y)) (is_close scale p.end y) is).1 in
     more (close_push scale (one box.first) box.others y h (ltb-true (place scale y.moment) (place scale p.end + pixel) close))
@@ -214,7 +214,7 @@ close_by scale box y ys false is h more new = (h, new)
 all_close : (scale : Scale) (box : Box) (ys : List Sent) → IsClose scale box → AllByRecursion (IsClose scale) (boxes_from scale box ys)
 all_close scale box [] h = (h, tt)
 all_close scale box (y ∷ ys) h =
-    close_by scale box y ys (joins scale (pile_of box) y) refl h (all_close scale (longer box y) ys) (all_close scale (single y) ys tt)
+    close_by scale box y ys (joins scale (cluster_of box) y) refl h (all_close scale (longer box y) ys) (all_close scale (single y) ys tt)
 
 close_boxes : (scale : Scale) (xs : List Sent) → AllByRecursion (IsClose scale) (boxes scale xs)
 close_boxes scale [] = tt

@@ -27,13 +27,13 @@ use Rattle.bus_picture.specs.Intervals.{interval_to, last_start}
 use Rattle.bus_picture.specs.Kinds.{TimerMark, has_gap, has_gap_before, has_interval, has_interval_before, has_sync, has_tick, has_timed, is_gap}
 use Rattle.bus_picture.specs.Kinds.{is_interval, is_sync, kinds_of, lane_has, lanes_have, sender_has}
 use Rattle.bus_picture.specs.declared.kinds.TimerMark.TheVariants.{Gaps, Intervals, Offsets}
-use Rattle.bus_picture.specs.Legends.{gap_sample, garbled_sample, horizon_sample, interval_sample, message_sample, shares_sample, tick_sample, tint_sample}
+use Rattle.bus_picture.specs.Legends.{gap_sample, garbled_sample, horizon_sample, interval_sample, message_sample, shares_sample, tick_sample, overlap_band_sample}
 use Rattle.bus_picture.specs.LegendLaws.{HasTimer, LegendListsWhatIsDrawn, WritesGap, WritesInterval, WritesSync, WritesTicks}
 use Rattle.bus_picture.specs.declared.measures.TheConstants.{GAP_BELOW as gap_below, GAP_ROOM as gap_room, PLOT_TOP as plot_top}
 use Rattle.bus_picture.specs.Offsets.{offset_moment, offsets_text, rounds_before, rounds_in, tick_area, tick_text}
 use Rattle.bus_picture.specs.TimeLines.{goes_behind}
-use Rattle.bus_picture.specs.Timers.{Track, gap_at, interval_behind, interval_end, interval_text, interval_words, is_behind_gap, is_drawn, is_near, lane_gap, last_lane_gap, line_area, line_before, sync_before, track_of}
-use Rattle.bus_picture.specs.Tints.{Tint, is_overlapped, joined, overlap_of, tint_text, tints_from, touches, widened}
+use Rattle.bus_picture.specs.Timers.{LaneTimings, gap_at, interval_behind, interval_end, interval_text, interval_words, is_behind_gap, is_drawn, is_near, lane_gap, last_lane_gap, line_area, line_before, sync_before, timings_of}
+use Rattle.bus_picture.specs.OverlapBands.{OverlapBand, is_overlapped, joined, overlap_of, overlap_band_text, bands_from, touches, widened}
 use Rattle.bus_picture.proofs.ShownLemmas.{hurt_shown, marked_boxes, plain_shown, thin_boxes}
 
 -- ---- what is written
@@ -70,61 +70,61 @@ either true b A B f g = (λ h. inl (f.0 refl), λ h. refl)
 either false b A B f g =
     (λ h. inr (g.0 h), λ h. elim h [ inl a ↦ absurd (true≢false (sym (f.1 a))) | inr y ↦ g.1 y ])
 
--- ---- tints
-tinted : (scale : Scale) (bottom : ℕ) (tint : Tint) (xs : List Tint) → flat_map (tint_text scale bottom) (tints_from scale tint xs) ≢ []
-tinted scale bottom tint [] = box_written Overlap _ _
-tinted scale bottom tint (next ∷ others) =
-    elim (touches scale tint next) as (λ b. flat_map (tint_text scale bottom)
-    (cond b (tints_from scale (widened tint next) others) (tint ∷ tints_from scale next others)) ≢ []) [
-      | true ↦ tinted scale bottom (widened tint next) others
+-- ---- overlap bands
+banded : (scale : Scale) (bottom : ℕ) (band : OverlapBand) (xs : List OverlapBand) → flat_map (overlap_band_text scale bottom) (bands_from scale band xs) ≢ []
+banded scale bottom band [] = box_written Overlap _ _
+banded scale bottom band (next ∷ others) =
+    elim (touches scale band next) as (λ b. flat_map (overlap_band_text scale bottom)
+    (cond b (bands_from scale (widened band next) others) (band ∷ bands_from scale next others)) ≢ []) [
+      | true ↦ banded scale bottom (widened band next) others
       | false ↦ box_written Overlap _ _
     ]
 
-any_tinted : (scale : Scale) (bottom : ℕ) (xs : List Sent) → (list_any (is_overlapped scale) xs ≡ true)
-    ↔ (flat_map (tint_text scale bottom) (joined scale (map overlap_of (filter (is_overlapped scale) xs))) ≢ [])
-any_tinted scale bottom [] = (λ h. absurd (true≢false (sym h)), λ h. absurd (h refl))
-any_tinted scale bottom (x ∷ xs) =
+any_banded : (scale : Scale) (bottom : ℕ) (xs : List Sent) → (list_any (is_overlapped scale) xs ≡ true)
+    ↔ (flat_map (overlap_band_text scale bottom) (joined scale (map overlap_of (filter (is_overlapped scale) xs))) ≢ [])
+any_banded scale bottom [] = (λ h. absurd (true≢false (sym h)), λ h. absurd (h refl))
+any_banded scale bottom (x ∷ xs) =
     elim (is_overlapped scale x) as (λ b. ((b || list_any (is_overlapped scale) xs) ≡ true)
-    ↔ (flat_map (tint_text scale bottom) (joined scale (map overlap_of (cond b (x ∷ filter (is_overlapped scale) xs) (filter (is_overlapped scale) xs)))) ≢ [])) [
-      | true ↦ (λ h. tinted scale bottom (overlap_of x) (map overlap_of (filter (is_overlapped scale) xs)), λ h. refl)
-      | false ↦ any_tinted scale bottom xs
+    ↔ (flat_map (overlap_band_text scale bottom) (joined scale (map overlap_of (cond b (x ∷ filter (is_overlapped scale) xs) (filter (is_overlapped scale) xs)))) ≢ [])) [
+      | true ↦ (λ h. banded scale bottom (overlap_of x) (map overlap_of (filter (is_overlapped scale) xs)), λ h. refl)
+      | false ↦ any_banded scale bottom xs
     ]
 
 -- ---- timers
-abbrev gap_line : Scale → Track → gaps.Gap → List ℕ
-gap_line scale track gap = box_text Gap (line_area scale (track.top + gap_below) gap.from gap.to)
+abbrev gap_line : Scale → LaneTimings → gaps.Gap → List ℕ
+gap_line scale timings gap = box_text Gap (line_area scale (timings.top + gap_below) gap.from gap.to)
 
-gap_written : (scale : Scale) (trace : Recording) (track : Track) (sender : Sender) → (has_gap scale trace.list track ≡ true) ↔ WritesGap scale trace track sender
-gap_written scale trace track sender =
-    either (list_any (has_gap_before scale trace.list track) (sents trace.list)) (is_gap scale (last_lane_gap trace.list track)) _ _
-    (any_written (has_gap_before scale trace.list track) (line_before scale trace.list track) (sents trace.list)
-    (λ x. both_written (is_first trace.list x) (is_gap scale (lane_gap trace.list track x)) (gap_line scale track (lane_gap trace.list track x)) (some_text 60 _)))
-    (turned (if_written (is_gap scale (last_lane_gap trace.list track)) (gap_line scale track (last_lane_gap trace.list track)) (some_text 60 _)))
+gap_written : (scale : Scale) (trace : Recording) (timings : LaneTimings) (sender : Sender) → (has_gap scale trace.list timings ≡ true) ↔ WritesGap scale trace timings sender
+gap_written scale trace timings sender =
+    either (list_any (has_gap_before scale trace.list timings) (sents trace.list)) (is_gap scale (last_lane_gap trace.list timings)) _ _
+    (any_written (has_gap_before scale trace.list timings) (line_before scale trace.list timings) (sents trace.list)
+    (λ x. both_written (is_first trace.list x) (is_gap scale (lane_gap trace.list timings x)) (gap_line scale timings (lane_gap trace.list timings x)) (some_text 60 _)))
+    (turned (if_written (is_gap scale (last_lane_gap trace.list timings)) (gap_line scale timings (last_lane_gap trace.list timings)) (some_text 60 _)))
 
-is_interval_written : (scale : Scale) (track : Track) (last next : Option ℕ)
-    → (interval_behind scale track last next ≢ []) ↔ (is_interval scale track last next ≡ true)
-is_interval_written scale track None next = (λ h. absurd (h refl), λ e. absurd (true≢false (sym e)))
-is_interval_written scale track (Some moment) next =
-    let to : ℕ = interval_to track.ti moment next in
+is_interval_written : (scale : Scale) (timings : LaneTimings) (last next : Option ℕ)
+    → (interval_behind scale timings last next ≢ []) ↔ (is_interval scale timings last next ≡ true)
+is_interval_written scale timings None next = (λ h. absurd (h refl), λ e. absurd (true≢false (sym e)))
+is_interval_written scale timings (Some moment) next =
+    let to : ℕ = interval_to timings.ti moment next in
     if_written (is_drawn scale moment to)
-    (interval_text scale track.top moment to ++ interval_end scale track.top track.ti moment to ++ interval_words scale track.k track.top track.ti moment to)
+    (interval_text scale timings.top moment to ++ interval_end scale timings.top timings.ti moment to ++ interval_words scale timings.k timings.top timings.ti moment to)
     (some_text 60 _)
 
-interval_written : (scale : Scale) (trace : Recording) (track : Track) (sender : Sender)
-    → (has_interval scale trace.list track ≡ true) ↔ WritesInterval scale trace track sender
-interval_written scale trace track sender =
-    let last : Sent → Option ℕ = λ x. last_start track.terminal (take x.at trace.list) in
-    either (list_any (has_interval_before scale trace.list track) (sents trace.list)) (is_interval scale track (last_start track.terminal trace.list) None) _ _ (
+interval_written : (scale : Scale) (trace : Recording) (timings : LaneTimings) (sender : Sender)
+    → (has_interval scale trace.list timings ≡ true) ↔ WritesInterval scale trace timings sender
+interval_written scale trace timings sender =
+    let last : Sent → Option ℕ = λ x. last_start timings.terminal (take x.at trace.list) in
+    either (list_any (has_interval_before scale trace.list timings) (sents trace.list)) (is_interval scale timings (last_start timings.terminal trace.list) None) _ _ (
       λ h.
-          let r = any_found (has_interval_before scale trace.list track) (sents trace.list) h in
-          let parts = and_parts (eqb r.0.terminal track.terminal) (is_interval scale track (last r.0) (Some r.0.moment)) r.2 in
-          (r.0, r.1, eqb-true r.0.terminal track.terminal parts.0, (is_interval_written scale track (last r.0) (Some r.0.moment)).1 parts.1),
+          let r = any_found (has_interval_before scale trace.list timings) (sents trace.list) h in
+          let parts = and_parts (eqb r.0.terminal timings.terminal) (is_interval scale timings (last r.0) (Some r.0.moment)) r.2 in
+          (r.0, r.1, eqb-true r.0.terminal timings.terminal parts.0, (is_interval_written scale timings (last r.0) (Some r.0.moment)).1 parts.1),
       λ r.
-          any_in (has_interval_before scale trace.list track) (sents trace.list) r.0 r.1
-          (and_from (eqb r.0.terminal track.terminal) (is_interval scale track (last r.0) (Some r.0.moment)) (eq-eqb r.0.terminal track.terminal r.2)
-          ((is_interval_written scale track (last r.0) (Some r.0.moment)).0 r.3)),
+          any_in (has_interval_before scale trace.list timings) (sents trace.list) r.0 r.1
+          (and_from (eqb r.0.terminal timings.terminal) (is_interval scale timings (last r.0) (Some r.0.moment)) (eq-eqb r.0.terminal timings.terminal r.2)
+          ((is_interval_written scale timings (last r.0) (Some r.0.moment)).0 r.3)),
     )
-    (turned (is_interval_written scale track (last_start track.terminal trace.list) None))
+    (turned (is_interval_written scale timings (last_start timings.terminal trace.list) None))
 
 rounds_written : (scale : Scale) (top : ℕ) (f : ℕ → ℕ) (a n : ℕ)
     → (nat_lt 0 n ≡ true) ↔ (flat_map (tick_text scale top) (map f (range_with_len a n)) ≢ [])
@@ -141,9 +141,9 @@ some_of f None h = absurd (true≢false (sym h))
 some_of f (Some s) h = (s, refl, h)
 
 -- A mark of this kind is in one of these lanes.
-timers_have : (scale : Scale) (lanes : List Lane) (table : Table) (trace : Recording) (mark : TimerMark) (of : Track → Sender → Type 0)
+timers_have : (scale : Scale) (lanes : List Lane) (table : Table) (trace : Recording) (mark : TimerMark) (of : LaneTimings → Sender → Type 0)
     → ((k : ℕ) (lane : Lane) (sender : Sender)
-    → (sender_has scale table trace mark lane sender ≡ true) ↔ of (track_of table trace.horizon k lane.terminal sender.tg) sender)
+    → (sender_has scale table trace mark lane sender ≡ true) ↔ of (timings_of table trace.horizon k lane.terminal sender.tg) sender)
     → (has_timed scale table trace mark lanes ≡ true) ↔ HasTimer scale lanes table trace of
 timers_have scale lanes table trace mark of same = (
   λ h.
@@ -174,7 +174,7 @@ gaps_written scale lanes table trace =
     let have : Bool = lanes_have scale table trace Gaps lanes in
     let sync : Bool = has_sync scale table.sg trace.list in
     let timers = timers_have scale lanes table trace Gaps (WritesGap scale trace)
-    (λ k lane sender. gap_written scale trace (track_of table trace.horizon k lane.terminal sender.tg) sender) in (
+    (λ k lane sender. gap_written scale trace (timings_of table trace.horizon k lane.terminal sender.tg) sender) in (
       λ h.
           let parts = and_parts near (have || sync) h in
           elim ((either have sync (have ≡ true) (sync ≡ true) (λ e. e, λ e. e) (λ e. e, λ e. e)).0 parts.1) [
@@ -204,12 +204,12 @@ legend_lists_what_is_drawn scale lanes table trace bottom top =
     record {
       messages = through (if_written kinds.messages (message_sample top) (some_text 60 _)) (through (plain_shown scale trace) (marked_boxes scale lanes trace false));
       garbled = through (if_written kinds.garbled (garbled_sample top) (some_text 60 _)) (through (hurt_shown scale trace) (marked_boxes scale lanes trace true));
-      tints = through (if_written kinds.tints (tint_sample top) (some_text 60 _)) (any_tinted scale bottom (sents trace.list));
+      overlap_bands = through (if_written kinds.overlap_bands (overlap_band_sample top) (some_text 60 _)) (any_banded scale bottom (sents trace.list));
       unobserved = through (if_written kinds.unobserved (horizon_sample top) (some_text 60 _)) (turned (if_written (goes_behind scale trace.horizon) (unseen scale bottom trace.horizon) (some_text 60 _)));
       gaps = through (if_written kinds.gaps (gap_sample top) (some_text 60 _)) (gaps_written scale lanes table trace);
       intervals = through (if_written kinds.intervals (interval_sample top) (some_text 60 _))
           (timers_have scale lanes table trace Intervals (WritesInterval scale trace)
-          (λ k lane sender. interval_written scale trace (track_of table trace.horizon k lane.terminal sender.tg) sender));
+          (λ k lane sender. interval_written scale trace (timings_of table trace.horizon k lane.terminal sender.tg) sender));
       offsets = through (if_written kinds.offsets (tick_sample top) (some_text 60 _))
           (timers_have scale lanes table trace Offsets (WritesTicks scale table trace)
           (λ k lane sender. ticks_written table.mode scale _ table.ti sender.at _));

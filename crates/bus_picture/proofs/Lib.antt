@@ -12,8 +12,8 @@ pub mod TailLemmas
 pub mod StrokeLemmas
 pub mod HeardLemmas
 pub mod GapLemmas
-pub mod TintLemmas
-pub mod TintLawLemmas
+pub mod OverlapBandLemmas
+pub mod OverlapBandLawLemmas
 pub mod TakingLemmas
 pub mod TakingLawLemmas
 pub mod IntervalLemmas

@@ -13,7 +13,7 @@ use Rattle.bus_dump.specs.declared.lane.Lane.{Lane}
 use Rattle.bus_shapes.specs.declared.scale.Scale.{Scale}
 use Rattle.bus_shapes.specs.declared.sent.Sent.{Sent}
 use Rattle.bus_shapes.specs.Sending.{sents}
-use Rattle.bus_picture.specs.Boxes.{Box, Pile, boxes, boxes_from, bucket, grown, is_close, is_thin, joins, members, one, pile_of}
+use Rattle.bus_picture.specs.Boxes.{Box, Cluster, boxes, boxes_from, bucket, grown, is_close, is_thin, joins, members, one, cluster_of}
 use Rattle.bus_picture.specs.Kinds.{has_thin, is_shown, is_shown_thin}
 use Rattle.bus_picture.specs.LegendLaws.{HasBox, IsMarked, IsThin}
 use Rattle.bus_picture.specs.declared.measures.TheConstants.{PLOT_TOP as plot_top}
@@ -164,9 +164,9 @@ hurt_shown scale trace = (
 )
 
 -- ---- what takes less than a pixel
-grown_first : (pile : Pile) (xs : List Sent) → (fold grown pile xs).first ≡ pile.first
-grown_first pile [] = refl
-grown_first pile (x ∷ xs) = grown_first (grown pile x) xs
+grown_first : (cluster : Cluster) (xs : List Sent) → (fold grown cluster xs).first ≡ cluster.first
+grown_first cluster [] = refl
+grown_first cluster (x ∷ xs) = grown_first (grown cluster x) xs
 
 -- A box has one transmission, or its first takes less than a pixel.
 abbrev IsFine : Scale → Box → Type 0
@@ -176,10 +176,10 @@ fine_from : (scale : Scale) (box : Box) (ys : List Sent) → IsFine scale box �
 fine_from scale box [] fine b (inl same) = subst (IsFine scale) (sym same) fine
 fine_from scale box [] fine b (inr i) = absurd i
 fine_from scale box (y ∷ ys) fine b i =
-    (elim (joins scale (pile_of box) y) as (λ j. joins scale (pile_of box) y ≡ j
+    (elim (joins scale (cluster_of box) y) as (λ j. joins scale (cluster_of box) y ≡ j
     → In b (cond j (boxes_from scale (longer box y) ys) (box ∷ boxes_from scale (single y) ys)) → IsFine scale b) [
       | true ↦ λ e k.
-          let p : Pile = pile_of box in
+          let p : Cluster = cluster_of box in
           let parts = and_parts (is_thin scale p.first && is_thin scale y && nat_eq (bucket scale p.first) (bucket scale y)) (is_close scale p.end y) e in
           let thin = (and_parts (is_thin scale p.first) (is_thin scale y) (and_parts (is_thin scale p.first && is_thin scale y) _ parts.0).0).0 in
           fine_from scale (longer box y) ys (inr (ap (is_thin scale) (sym (grown_first (one box.first) box.others)) ∙ thin)) b k

@@ -15,7 +15,7 @@ use Rattle.bus_shapes.specs.declared.sent.Sent.{Sent}
 use Rattle.bus_shapes.specs.Sending.{sent_of, sents, sents_from}
 use Rattle.bus_picture.specs.Gaps.{Heard, heard_all, heard_more, heard_next, heard_of, is_first, settled}
 use Rattle.bus_picture.specs.Intervals.{last_start, next_start}
-use Rattle.bus_picture.specs.Timers.{Track, sender_timers, timers_at, timers_behind}
+use Rattle.bus_picture.specs.Timers.{LaneTimings, sender_timers, timers_at, timers_behind}
 use Rattle.bus_picture.specs.inside.Starting.{Hearing, Hears, deaf, drawn_first, hear, last_text, next_text, Covers}
 use Rattle.bus_picture.proofs.HeardLemmas.{all_heard}
 
@@ -86,15 +86,15 @@ told_push list j (y ∷ xs) x =
     ∙ ap (λ k. sents_from list (j + 1) xs ++ sent_of list k x ∷ []) (let z : j + 1 + length xs ≡ j + suc (length xs) = omega arith in z))
 
 -- What is drawn at the first transmissions of a list, with one more.
-pub drawn_more : (scale : Scale) (list : List Entry) (track : Track) (k : ℕ) (x : Entry) → slice_get list k ≡ Some x
-    → drawn_first scale list track (k + 1) ≡ drawn_first scale list track k ++ timers_at scale list track (sent_of list k x)
-drawn_more scale list track k x at =
+pub drawn_more : (scale : Scale) (list : List Entry) (timings : LaneTimings) (k : ℕ) (x : Entry) → slice_get list k ≡ Some x
+    → drawn_first scale list timings (k + 1) ≡ drawn_first scale list timings k ++ timers_at scale list timings (sent_of list k x)
+drawn_more scale list timings k x at =
     let within : k < length list = within_list k list x at in
     let long : 0 + length (take k list) ≡ k = omega (arith, length-take k list) in
-    ap (λ (l : List Entry). flat_map (timers_at scale list track) (sents_from list 0 l)) (take_next k list x at)
-    ∙ ap (flat_map (timers_at scale list track)) (told_push list 0 (take k list) x)
-    ∙ flat_map-push (timers_at scale list track) (sents_from list 0 (take k list)) (sent_of list (0 + length (take k list)) x)
-    ∙ ap (λ n. drawn_first scale list track k ++ timers_at scale list track (sent_of list n x)) long
+    ap (λ (l : List Entry). flat_map (timers_at scale list timings) (sents_from list 0 l)) (take_next k list x at)
+    ∙ ap (flat_map (timers_at scale list timings)) (told_push list 0 (take k list) x)
+    ∙ flat_map-push (timers_at scale list timings) (sents_from list 0 (take k list)) (sent_of list (0 + length (take k list)) x)
+    ∙ ap (λ n. drawn_first scale list timings k ++ timers_at scale list timings (sent_of list n x)) long
 
 -- The last start, with one transmission more.
 pub last_more : (n k : ℕ) (list : List Entry) (last : Option ℕ) (x : Entry) → slice_get list k ≡ Some x → last ≡ last_start n (take k list)
@@ -104,25 +104,25 @@ last_more n k list last x at is =
     ∙ sym (ap (last_start n) (take_next k list x at) ∙ fold-append (next_start n) None (take k list) (x ∷ []))
 
 -- What is written at a transmission is what is drawn there.
-pub next_drawn : (scale : Scale) (list : List Entry) (track : Track) (last : Option ℕ) (first : Bool) (heard : Heard) (k : ℕ) (x : Entry)
-    → last ≡ last_start track.terminal (take k list) → first ≡ is_first list (sent_of list k x)
-    → heard ≡ heard_of track.quiet track.sg track.terminal x.moment (take k list)
-    → next_text scale track last first heard x ≡ timers_at scale list track (sent_of list k x)
-next_drawn scale list track last first heard k x last_is first_is heard_is =
-    ap (λ (o : Option ℕ). next_text scale track o first heard x) last_is
-    ∙ ap (λ b. next_text scale track (last_start track.terminal (take k list)) b heard x) first_is
-    ∙ ap (λ (h : Heard). next_text scale track (last_start track.terminal (take k list)) (is_first list (sent_of list k x)) h x) heard_is
+pub next_drawn : (scale : Scale) (list : List Entry) (timings : LaneTimings) (last : Option ℕ) (first : Bool) (heard : Heard) (k : ℕ) (x : Entry)
+    → last ≡ last_start timings.terminal (take k list) → first ≡ is_first list (sent_of list k x)
+    → heard ≡ heard_of timings.quiet timings.sg timings.terminal x.moment (take k list)
+    → next_text scale timings last first heard x ≡ timers_at scale list timings (sent_of list k x)
+next_drawn scale list timings last first heard k x last_is first_is heard_is =
+    ap (λ (o : Option ℕ). next_text scale timings o first heard x) last_is
+    ∙ ap (λ b. next_text scale timings (last_start timings.terminal (take k list)) b heard x) first_is
+    ∙ ap (λ (h : Heard). next_text scale timings (last_start timings.terminal (take k list)) (is_first list (sent_of list k x)) h x) heard_is
 
 -- What is written behind all is what is drawn there.
-pub last_drawn : (scale : Scale) (list : List Entry) (track : Track) (last : Option ℕ) (heard : Heard) (k : ℕ) → length list ≤ k
-    → last ≡ last_start track.terminal (take k list) → heard ≡ heard_all track.quiet track.sg track.terminal (take k list)
-    → drawn_first scale list track k ++ last_text scale track last heard ≡ sender_timers scale list track
-last_drawn scale list track last heard k over last_is heard_is =
+pub last_drawn : (scale : Scale) (list : List Entry) (timings : LaneTimings) (last : Option ℕ) (heard : Heard) (k : ℕ) → length list ≤ k
+    → last ≡ last_start timings.terminal (take k list) → heard ≡ heard_all timings.quiet timings.sg timings.terminal (take k list)
+    → drawn_first scale list timings k ++ last_text scale timings last heard ≡ sender_timers scale list timings
+last_drawn scale list timings last heard k over last_is heard_is =
     let all : take k list ≡ list = take_all k list over in
-    ap (λ (o : Option ℕ). drawn_first scale list track k ++ last_text scale track o heard) (last_is ∙ ap (last_start track.terminal) all)
-    ∙ ap (λ (h : Heard). drawn_first scale list track k ++ last_text scale track (last_start track.terminal list) h)
-    (heard_is ∙ ap (heard_all track.quiet track.sg track.terminal) all)
-    ∙ ap (λ (l : List Entry). flat_map (timers_at scale list track) (sents_from list 0 l) ++ timers_behind scale list track) all
+    ap (λ (o : Option ℕ). drawn_first scale list timings k ++ last_text scale timings o heard) (last_is ∙ ap (last_start timings.terminal) all)
+    ∙ ap (λ (h : Heard). drawn_first scale list timings k ++ last_text scale timings (last_start timings.terminal list) h)
+    (heard_is ∙ ap (heard_all timings.quiet timings.sg timings.terminal) all)
+    ∙ ap (λ (l : List Entry). flat_map (timers_at scale list timings) (sents_from list 0 l) ++ timers_behind scale list timings) all
 
 -- ---- a walk over what is told of a list
 pub covers_none : (text : List ℕ → Type 0) (of : Sent → List ℕ) (list : List Entry) (left : List Sent) → left ≡ sents list → text [] → Covers text of list left

@@ -6,17 +6,17 @@ use Rattle.bus_shapes.specs.declared.scale.Scale.{Scale}
 use Rattle.bus_shapes.specs.declared.sent.Sent.{Sent}
 use Rattle.bus_shapes.specs.Scales.{IsScale, extent, place}
 use Rattle.bus_shapes.proofs.ScaleLemmas.{place_rises}
-use Rattle.bus_picture.specs.Boxes.{Box, Pile, grown, is_narrow, is_thin, one, pile_height, pile_of, share_height}
+use Rattle.bus_picture.specs.Boxes.{Box, Cluster, grown, is_narrow, is_thin, one, cluster_height, cluster_of, share_height}
 use Rattle.bus_picture.specs.Laws.{StrokesLieWithin, with_stroke}
 use Rattle.bus_picture.specs.Rows.{Row, box_area, inset, overhang, plain_overhang}
 
-no_earlier : (pile : Pile) (xs : List Sent) → pile.end ≤ (fold grown pile xs).end
-no_earlier pile [] = omega arith
-no_earlier pile (x ∷ xs) = omega (arith, no_earlier (grown pile x) xs)
+no_earlier : (cluster : Cluster) (xs : List Sent) → cluster.end ≤ (fold grown cluster xs).end
+no_earlier cluster [] = omega arith
+no_earlier cluster (x ∷ xs) = omega (arith, no_earlier (grown cluster x) xs)
 
-first_kept : (pile : Pile) (xs : List Sent) → (fold grown pile xs).first ≡ pile.first
-first_kept pile [] = refl
-first_kept pile (x ∷ xs) = first_kept (grown pile x) xs
+first_kept : (cluster : Cluster) (xs : List Sent) → (fold grown cluster xs).first ≡ cluster.first
+first_kept cluster [] = refl
+first_kept cluster (x ∷ xs) = first_kept (grown cluster x) xs
 
 few_plain : (terminal : Option ℕ) → plain_overhang terminal ≤ 7
 few_plain None = omega arith
@@ -42,21 +42,21 @@ by_thin : (share : ℕ) (thin : Bool) → thin ≡ false → cond thin share 180
 by_thin share true e = absurd cc
 by_thin share false e = refl
 
-by_narrow : (scale : Scale) (row : Row) (box : Box) (narrow : Bool) → IsScale scale → is_narrow scale (pile_of box).first ≡ narrow
-    → with_stroke (overhang row narrow) (inset (overhang row narrow) (box_area scale row (pile_of box))) ≡ box_area scale row (pile_of box)
-by_narrow scale row box true s e = back 0 (box_area scale row (pile_of box)) (omega arith) (omega arith)
+by_narrow : (scale : Scale) (row : Row) (box : Box) (narrow : Bool) → IsScale scale → is_narrow scale (cluster_of box).first ≡ narrow
+    → with_stroke (overhang row narrow) (inset (overhang row narrow) (box_area scale row (cluster_of box))) ≡ box_area scale row (cluster_of box)
+by_narrow scale row box true s e = back 0 (box_area scale row (cluster_of box)) (omega arith) (omega arith)
 by_narrow scale row box false s e =
-    let pile : Pile = pile_of box in
+    let cluster : Cluster = cluster_of box in
     let few : overhang row false ≤ 7 = few_by row.garbled row.terminal in
-    let first : pile.first ≡ box.first = first_kept (one box.first) box.others in
-    let end : box.first.end ≤ pile.end = no_earlier (one box.first) box.others in
-    let same_end : pile.first.end ≡ box.first.end = ap (λ (x : Sent). x.end) first in
-    let later : place scale pile.first.end ≤ place scale pile.end = place_rises scale pile.first.end pile.end s (omega arith) in
-    let wide : 60 ≤ extent scale pile.first.moment pile.first.end = ltb-false (extent scale pile.first.moment pile.first.end) 60 e in
-    let thin : is_thin scale pile.first ≡ false = le-ltb (place scale pile.first.end) (place scale pile.first.moment + 10) (omega arith) in
-    let tall : pile_height scale pile ≡ 180 = by_thin (share_height scale pile) (is_thin scale pile.first) thin in
-    let whole : 60 ≤ extent scale pile.first.moment pile.end = omega arith in
-    back (overhang row false) (box_area scale row pile) (omega arith) (omega arith)
+    let first : cluster.first ≡ box.first = first_kept (one box.first) box.others in
+    let end : box.first.end ≤ cluster.end = no_earlier (one box.first) box.others in
+    let same_end : cluster.first.end ≡ box.first.end = ap (λ (x : Sent). x.end) first in
+    let later : place scale cluster.first.end ≤ place scale cluster.end = place_rises scale cluster.first.end cluster.end s (omega arith) in
+    let wide : 60 ≤ extent scale cluster.first.moment cluster.first.end = ltb-false (extent scale cluster.first.moment cluster.first.end) 60 e in
+    let thin : is_thin scale cluster.first ≡ false = le-ltb (place scale cluster.first.end) (place scale cluster.first.moment + 10) (omega arith) in
+    let tall : cluster_height scale cluster ≡ 180 = by_thin (share_height scale cluster) (is_thin scale cluster.first) thin in
+    let whole : 60 ≤ extent scale cluster.first.moment cluster.end = omega arith in
+    back (overhang row false) (box_area scale row cluster) (omega arith) (omega arith)
 
 pub strokes_lie_within : StrokesLieWithin
-strokes_lie_within scale row box s = by_narrow scale row box (is_narrow scale (pile_of box).first) s refl
+strokes_lie_within scale row box s = by_narrow scale row box (is_narrow scale (cluster_of box).first) s refl

@@ -1,13 +1,14 @@
 -- The boxes of a row of transmissions. Neighbours that take less than a pixel each share a box, where less than a pixel lies between them
 -- and they begin in the same six pixels: so no box covers quiet between two of them that takes a pixel.
-use Rattle.std.specs.Prelude.{ℕ, ◌+◌, ◌-◌, ◌*◌, ◌/◌, max, min, Bool, ◌&&◌, nat_le, nat_lt, nat_eq, List, [], ◌∷◌, ◌++◌, codes, decimal, fold}
+use Rattle.std.specs.Prelude.{ℕ, ◌+◌, ◌-◌, ◌*◌, ◌/◌, max, min, Bool, ◌&&◌, nat_le, nat_lt, nat_eq, List, [], ◌∷◌, ◌++◌, codes, decimal}
+use Rattle.std.specs.Prelude.{fold}
 use Rattle.std.specs.Prelude.{if◌then◌else◌}
 use Rattle.std.specs.List.{count_by, range_with_len}
 use Rattle.bus_shapes.specs.declared.sent.Sent.{Sent}
 use Rattle.bus_shapes.specs.Sayings.{garbled_words, sent_words}
 use Rattle.bus_shapes.specs.declared.scale.Scale.{Scale}
 use Rattle.bus_shapes.specs.Scales.{extent, place}
-pub use Rattle.bus_picture.specs.declared.pile.Pile.{Pile}
+pub use Rattle.bus_picture.specs.declared.cluster.Cluster.{Cluster}
 use Rattle.bus_shapes.specs.Measures.{pixel}
 use Rattle.bus_picture.specs.declared.measures.TheConstants.{BOX_HEIGHT as box_height, LEAST_HEIGHT as least_height, NARROW as narrow}
 
@@ -29,23 +30,23 @@ abbrev pub is_close : Scale → ℕ → Sent → Bool
 is_close scale end x = nat_lt (place scale x.moment) (place scale end + pixel)
 
 -- A box of one transmission, of which all that is drawn is busy.
-abbrev pub one : Sent → Pile
+abbrev pub one : Sent → Cluster
 one x = record { first = x; count = 1; end = x.end; busy = x.end - x.moment }
 
 -- A box with one transmission more, which is busy from its begin on, or from the end of the others on.
-abbrev pub grown : Pile → Sent → Pile
-grown pile x = record {
-  first = pile.first;
-  count = pile.count + 1;
-  end = max pile.end x.end;
-  busy = pile.busy + (x.end - max pile.end x.moment);
+abbrev pub grown : Cluster → Sent → Cluster
+grown cluster x = record {
+  first = cluster.first;
+  count = cluster.count + 1;
+  end = max cluster.end x.end;
+  busy = cluster.busy + (x.end - max cluster.end x.moment);
 }
 
 -- Whether the next transmission shares a box: it and the first of the box take less than a pixel and begin in the same six pixels, and less
 -- than a pixel lies between it and all of the box.
-abbrev pub joins : Scale → Pile → Sent → Bool
-joins scale pile y =
-    is_thin scale pile.first && is_thin scale y && nat_eq (bucket scale pile.first) (bucket scale y) && is_close scale pile.end y
+abbrev pub joins : Scale → Cluster → Sent → Bool
+joins scale cluster y =
+    is_thin scale cluster.first && is_thin scale y && nat_eq (bucket scale cluster.first) (bucket scale y) && is_close scale cluster.end y
 
 -- A box: a transmission, and those after it that share it.
 pub record Box : Type 0 where
@@ -57,14 +58,14 @@ abbrev pub members : Box → List Sent
 members box = box.first ∷ box.others
 
 -- What is drawn of a box: its first transmission, how many it has, when all have ended, and for how many bit times one of them is sent.
-abbrev pub pile_of : Box → Pile
-pile_of box = fold grown (one box.first) box.others
+abbrev pub cluster_of : Box → Cluster
+cluster_of box = fold grown (one box.first) box.others
 
 -- The boxes where this one is the last so far, and these transmissions are yet to come: it takes those that share it.
 abbrev pub boxes_from : Scale → Box → List Sent → List Box
 boxes_from scale box [] = box ∷ []
 boxes_from scale box (y ∷ ys) =
-    if joins scale (pile_of box) y then boxes_from scale (record { first = box.first; others = box.others ++ y ∷ [] }) ys
+    if joins scale (cluster_of box) y then boxes_from scale (record { first = box.first; others = box.others ++ y ∷ [] }) ys
     else box ∷ boxes_from scale (record { first = y; others = [] }) ys
 
 -- The boxes of a row of transmissions.
@@ -74,34 +75,34 @@ boxes scale (x ∷ xs) = boxes_from scale (record { first = x; others = [] }) xs
 
 -- ---- what is drawn of a box
 -- How many transmissions it has, and from when to when.
-abbrev pub many_words : Pile → List ℕ
-many_words pile =
-    decimal pile.count ++ codes " transmissions, moments " ++ decimal pile.first.moment ++ codes " to " ++ decimal pile.end
-    ++ garbled_words pile.first.garbled
+abbrev pub many_words : Cluster → List ℕ
+many_words cluster =
+    decimal cluster.count ++ codes " transmissions, moments " ++ decimal cluster.first.moment ++ codes " to " ++ decimal cluster.end
+    ++ garbled_words cluster.first.garbled
 
 -- The bit times that take more than a pixel.
 abbrev pub pixel_bits : Scale → ℕ
 pixel_bits scale = pixel * (scale.to - scale.from) / scale.width + 1
 
 -- How many bit times a box is drawn for: from the begin of its first transmission to the end of all, and no less than a pixel.
-abbrev pub drawn_bits : Scale → Pile → ℕ
-drawn_bits scale pile = max (pile.end - pile.first.moment) (pixel_bits scale)
+abbrev pub drawn_bits : Scale → Cluster → ℕ
+drawn_bits scale cluster = max (cluster.end - cluster.first.moment) (pixel_bits scale)
 
 -- How many of so many are busy, in words.
 abbrev pub busy_words : ℕ → ℕ → List ℕ
 busy_words busy bits = codes ", busy " ++ decimal busy ++ codes " of " ++ decimal bits ++ codes " bit times"
 
 -- The same of a box of what takes less than a pixel.
-abbrev pub share_words : Scale → Pile → List ℕ
-share_words scale pile = if is_thin scale pile.first then busy_words pile.busy (drawn_bits scale pile) else []
+abbrev pub share_words : Scale → Cluster → List ℕ
+share_words scale cluster = if is_thin scale cluster.first then busy_words cluster.busy (drawn_bits scale cluster) else []
 
 -- The words of its transmissions: of one, or of all.
-abbrev pub members_words : Pile → List ℕ
-members_words pile = if nat_eq pile.count 1 then sent_words pile.first else many_words pile
+abbrev pub members_words : Cluster → List ℕ
+members_words cluster = if nat_eq cluster.count 1 then sent_words cluster.first else many_words cluster
 
 -- The words of a box; of one that takes less than a pixel, or has several that do, with how much of it is busy.
-abbrev pub pile_words : Scale → Pile → List ℕ
-pile_words scale pile = members_words pile ++ share_words scale pile
+abbrev pub cluster_words : Scale → Cluster → List ℕ
+cluster_words scale cluster = members_words cluster ++ share_words scale cluster
 
 -- Whether the square of a height is no more than the share of the square of the whole height that is busy.
 abbrev pub is_below_root : ℕ → ℕ → ℕ → Bool
@@ -113,9 +114,9 @@ root_height busy bits = count_by (λ k. is_below_root busy bits (k + 1)) (range_
 
 -- The height of a box of transmissions that take less than a pixel: the square root of the share of what is drawn that is busy, by which
 -- small shares can be told apart.
-abbrev pub share_height : Scale → Pile → ℕ
-share_height scale pile = min (max (root_height pile.busy (drawn_bits scale pile)) least_height) box_height
+abbrev pub share_height : Scale → Cluster → ℕ
+share_height scale cluster = min (max (root_height cluster.busy (drawn_bits scale cluster)) least_height) box_height
 
 -- The height of a box.
-abbrev pub pile_height : Scale → Pile → ℕ
-pile_height scale pile = if is_thin scale pile.first then share_height scale pile else box_height
+abbrev pub cluster_height : Scale → Cluster → ℕ
+cluster_height scale cluster = if is_thin scale cluster.first then share_height scale cluster else box_height

@@ -84,9 +84,10 @@ faults_text scale near lanes faults =
     flat_map (fault_text scale near lanes) faults ++ option_map_or (title_text scale) (slice_get faults 0) []
 
 -- ---- what is told of a trace
--- The marks of that, in a scale and of a table with this transmit interval: of the first breach, or of the faults of a list; none of a trace that
--- was recorded on a cable.
+-- The marks of that, in a scale and of a table with this transmit interval: of the first breach, or of the faults of a list; none of a
+-- trace that was recorded on a cable.
 abbrev pub told_text : Scale → ℕ → List Lane → Told → List Entry → List ℕ
 told_text scale ti lanes (Audit answer) list = breach_text scale lanes answer
 told_text scale ti lanes (OnCable garbled) list = []
-told_text scale ti lanes (Findings bounds judgements garbled) list = faults_text scale (is_near scale ti) lanes (faults scale list judgements.items)
+told_text scale ti lanes (Findings bounds judgements garbled) list =
+    faults_text scale (is_near scale ti) lanes (faults scale list judgements.items)

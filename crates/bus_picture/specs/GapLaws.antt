@@ -16,7 +16,7 @@ use Rattle.bus_shapes.specs.Sending.{sents}
 use Rattle.bus_shapes.specs.declared.scale.Scale.{Scale}
 use Rattle.bus_picture.specs.Gaps.{Gap, is_first}
 use Rattle.bus_picture.specs.Intervals.{interval_to, last_start}
-use Rattle.bus_picture.specs.Timers.{Track, is_behind_gap, lane_gap, last_lane_gap, track_of}
+use Rattle.bus_picture.specs.Timers.{LaneTimings, is_behind_gap, lane_gap, last_lane_gap, timings_of}
 
 -- Up to a moment the terminal gap of a sender is this one:
 --   counts   at the moment it counts from the gap's first moment, after all that the sender has heard
@@ -34,12 +34,12 @@ pub record IsGapBefore (table : Table) (trace : Recording) (sender : Sender) (x 
   pub carrier_begins : carrier trace.list x.moment ≡ true
 
 -- What is the same all along the lane in which a sender is drawn: but for where the lane lies, that of any lane.
-abbrev pub drawn_track : Table → Recording → Sender → Track
-drawn_track table trace sender = track_of table trace.horizon 0 sender.number sender.tg
+abbrev pub drawn_timings : Table → Recording → Sender → LaneTimings
+drawn_timings table trace sender = timings_of table trace.horizon 0 sender.number sender.tg
 
 -- The terminal gap that is drawn of a sender before a transmission, its own or another's.
 abbrev pub drawn_gap : Table → Recording → Sender → Sent → Gap
-drawn_gap table trace sender x = lane_gap trace.list (drawn_track table trace sender) x
+drawn_gap table trace sender x = lane_gap trace.list (drawn_timings table trace sender) x
 
 -- Each terminal gap that is drawn before a transmission is that of the timers.
 abbrev pub GapsAreTrue : Type 0
@@ -51,7 +51,7 @@ GapsAreTrue =
 
 -- The terminal gap that is drawn of a sender behind all transmissions.
 abbrev pub last_gap : Table → Recording → Sender → Gap
-last_gap table trace sender = last_lane_gap trace.list (drawn_track table trace sender)
+last_gap table trace sender = last_lane_gap trace.list (drawn_timings table trace sender)
 
 -- It is that of the timers too.
 abbrev pub LastGapsAreTrue : Type 0
@@ -102,14 +102,14 @@ abbrev pub IntervalsAreTrue : Type 0
 IntervalsAreTrue =
     (table : Table) (trace : Recording) (sender : Sender) (x : Sent) (from : ℕ) → IsTrace trace → In x (sents trace.list)
     → x.terminal ≡ sender.number → last_start sender.number (take x.at trace.list) ≡ Some from
-    → IsIntervalOf table trace sender from (interval_to (drawn_track table trace sender).ti from (Some x.moment))
+    → IsIntervalOf table trace sender from (interval_to (drawn_timings table trace sender).ti from (Some x.moment))
 
 -- So is the one that is drawn behind the last start of all.
 abbrev pub LastIntervalsAreTrue : Type 0
 LastIntervalsAreTrue =
     (table : Table) (trace : Recording) (sender : Sender) (from : ℕ) → IsTrace trace
     → last_start sender.number trace.list ≡ Some from
-    → IsIntervalOf table trace sender from (interval_to (drawn_track table trace sender).ti from None)
+    → IsIntervalOf table trace sender from (interval_to (drawn_timings table trace sender).ti from None)
 
 -- From each start of a terminal one is drawn: up to its next start, or behind all.
 abbrev pub IntervalsAreAll : Type 0

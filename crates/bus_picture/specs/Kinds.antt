@@ -19,8 +19,8 @@ use Rattle.bus_picture.specs.Gaps.{Gap, is_first}
 use Rattle.bus_picture.specs.Intervals.{interval_to, last_start}
 use Rattle.bus_picture.specs.Offsets.{rounds_in}
 use Rattle.bus_picture.specs.Strings.{meets}
-use Rattle.bus_picture.specs.Timers.{Track, is_behind_gap, is_drawn, is_near, lane_gap, last_lane_gap, track_of}
-use Rattle.bus_picture.specs.Tints.{has_tints}
+use Rattle.bus_picture.specs.Timers.{LaneTimings, is_behind_gap, is_drawn, is_near, lane_gap, last_lane_gap, timings_of}
+use Rattle.bus_picture.specs.OverlapBands.{has_overlap_bands}
 pub use Rattle.bus_picture.specs.declared.kinds.Kinds.{Kinds}
 pub use Rattle.bus_picture.specs.declared.kinds.TimerMark.{TimerMark}
 use Rattle.bus_picture.specs.declared.kinds.TimerMark.TheVariants.{Gaps, Intervals, Offsets}
@@ -76,27 +76,27 @@ abbrev pub is_gap : Scale → Gap → Bool
 is_gap scale gap = is_drawn scale gap.from gap.to
 
 -- Whether that of the one before a transmission is, once for all that begin at a moment.
-abbrev pub has_gap_before : Scale → List Entry → Track → Sent → Bool
-has_gap_before scale list track x = is_first list x && is_gap scale (lane_gap list track x)
+abbrev pub has_gap_before : Scale → List Entry → LaneTimings → Sent → Bool
+has_gap_before scale list timings x = is_first list x && is_gap scale (lane_gap list timings x)
 
 -- Whether that of one of a sender is: before a transmission, or behind all.
-abbrev pub has_gap : Scale → List Entry → Track → Bool
-has_gap scale list track = list_any (has_gap_before scale list track) (sents list) || is_gap scale (last_lane_gap list track)
+abbrev pub has_gap : Scale → List Entry → LaneTimings → Bool
+has_gap scale list timings = list_any (has_gap_before scale list timings) (sents list) || is_gap scale (last_lane_gap list timings)
 
 -- Whether the line of the transmit interval is drawn from the last start of a sender, where there is one, to its next, where there is one.
-abbrev pub is_interval : Scale → Track → Option ℕ → Option ℕ → Bool
-is_interval scale track None next = false
-is_interval scale track (Some moment) next = is_drawn scale moment (interval_to track.ti moment next)
+abbrev pub is_interval : Scale → LaneTimings → Option ℕ → Option ℕ → Bool
+is_interval scale timings None next = false
+is_interval scale timings (Some moment) next = is_drawn scale moment (interval_to timings.ti moment next)
 
 -- Whether that of the one up to a transmission is, where that is a start of the sender.
-abbrev pub has_interval_before : Scale → List Entry → Track → Sent → Bool
-has_interval_before scale list track x =
-    x.terminal == track.terminal && is_interval scale track (last_start track.terminal (take x.at list)) (Some x.moment)
+abbrev pub has_interval_before : Scale → List Entry → LaneTimings → Sent → Bool
+has_interval_before scale list timings x =
+    x.terminal == timings.terminal && is_interval scale timings (last_start timings.terminal (take x.at list)) (Some x.moment)
 
 -- Whether that of one of a sender is: up to a start, or behind all.
-abbrev pub has_interval : Scale → List Entry → Track → Bool
-has_interval scale list track =
-    list_any (has_interval_before scale list track) (sents list) || is_interval scale track (last_start track.terminal list) None
+abbrev pub has_interval : Scale → List Entry → LaneTimings → Bool
+has_interval scale list timings =
+    list_any (has_interval_before scale list timings) (sents list) || is_interval scale timings (last_start timings.terminal list) None
 
 -- Whether a tick is drawn of a sender with this offset that held so many messages, which has none in aperiodic mode.
 abbrev pub has_tick : Mode → Scale → ℕ → ℕ → ℕ → Bool
@@ -104,13 +104,13 @@ has_tick Aperiodic scale ti at held = false
 has_tick Periodic scale ti at held = nat_lt 0 (rounds_in scale ti at held)
 
 -- What is the same all along the lane of a sender: but for where the lane lies, that of any lane.
-abbrev pub track_in : Table → Recording → Lane → Sender → Track
-track_in table trace lane sender = track_of table trace.horizon 0 lane.terminal sender.tg
+abbrev pub timings_in : Table → Recording → Lane → Sender → LaneTimings
+timings_in table trace lane sender = timings_of table trace.horizon 0 lane.terminal sender.tg
 
 -- Whether a mark of this kind is drawn of a sender whose timers are drawn.
 abbrev pub sender_has : Scale → Table → Recording → TimerMark → Lane → Sender → Bool
-sender_has scale table trace Gaps lane sender = has_gap scale trace.list (track_in table trace lane sender)
-sender_has scale table trace Intervals lane sender = has_interval scale trace.list (track_in table trace lane sender)
+sender_has scale table trace Gaps lane sender = has_gap scale trace.list (timings_in table trace lane sender)
+sender_has scale table trace Intervals lane sender = has_interval scale trace.list (timings_in table trace lane sender)
 sender_has scale table trace Offsets lane sender = has_tick table.mode scale table.ti sender.at (held trace.holds lane.terminal)
 
 -- Whether one is in a lane, where its terminal is a sender.
@@ -138,7 +138,7 @@ abbrev pub kinds_of : Scale → List Lane → Table → Recording → Kinds
 kinds_of scale lanes table trace = record {
   messages = has_messages (counts_of scale trace);
   garbled = has_garbled (counts_of scale trace);
-  tints = has_tints scale trace.list;
+  overlap_bands = has_overlap_bands scale trace.list;
   unobserved = goes_behind scale trace.horizon;
   gaps = has_gaps scale table trace lanes;
   intervals = has_timed scale table trace Intervals lanes;

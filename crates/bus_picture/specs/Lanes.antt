@@ -26,8 +26,8 @@ each_lane of k (lane ∷ lanes) = of k lane ++ each_lane of (k + 1) lanes
 abbrev pub is_in : Scale → Lane → Entry → Bool
 is_in scale lane x = x.terminal == lane.terminal && meets scale x.moment (end_of x)
 
--- Whether the first breach of an audit names this terminal. Of a trace that was recorded on a cable there is no audit, and findings name none:
--- a fault is found at a transmission, whose lane has that to show.
+-- Whether the first breach of an audit names this terminal. Of a trace that was recorded on a cable there is no audit, and findings name
+-- none: a fault is found at a transmission, whose lane has that to show.
 abbrev pub is_named : Told → ℕ → Bool
 is_named (Audit (Lawful collided)) n = false
 is_named (Audit (Breach moment terminal kind)) n = terminal == n

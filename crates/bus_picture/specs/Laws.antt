@@ -19,7 +19,7 @@ use Rattle.bus_shapes.specs.Measures.{pixel}
 use Rattle.bus_shapes.specs.Scales.{IsScale, place}
 use Rattle.bus_shapes.specs.Sending.{sents}
 use Rattle.bus_shapes.specs.SendingLaws.{IsToldOf}
-use Rattle.bus_picture.specs.Boxes.{Box, Pile, boxes, grown, is_narrow, members, one, pile_of}
+use Rattle.bus_picture.specs.Boxes.{Box, Cluster, boxes, grown, is_narrow, members, one, cluster_of}
 use Rattle.bus_picture.specs.Rows.{Row, box_area, box_class, drawn_area, overhang, shown, shows}
 use Rattle.bus_picture.specs.Lanes.{is_named}
 use Rattle.bus_picture.specs.Loads.{bus_bits, goes_on, up_to}
@@ -42,16 +42,16 @@ BoxesHoldRows =
 abbrev pub HatchedAreGarbled : Type 0
 HatchedAreGarbled =
     (scale : Scale) (row : Row) (list : List Entry) (box : Box) (x : Sent) → In box (boxes scale (shown scale row list))
-    → In x (members box) → IsToldOf list x × ((is_hatched (box_class scale row (pile_of box)) ≡ true) ↔ (garbled list x.at ≡ true))
+    → In x (members box) → IsToldOf list x × ((is_hatched (box_class scale row (cluster_of box)) ≡ true) ↔ (garbled list x.at ≡ true))
 
 -- A box goes from the begin of its first transmission, before which none of it begins, to the end of one of them, behind which none of it
 -- ends; and it counts them.
 pub record HoldsIts (box : Box) : Type 0 where
-  pub within : AllByRecursion (λ (x : Sent). (box.first.moment ≤ x.moment) × (x.end ≤ (pile_of box).end)) (members box)
+  pub within : AllByRecursion (λ (x : Sent). (box.first.moment ≤ x.moment) × (x.end ≤ (cluster_of box).end)) (members box)
   pub last : Sent
   pub held : In last (members box)
-  pub ends : last.end ≡ (pile_of box).end
-  pub count : (pile_of box).count ≡ length (members box)
+  pub ends : last.end ≡ (cluster_of box).end
+  pub count : (cluster_of box).count ≡ length (members box)
 
 -- Each box of a row of a list in order does so.
 abbrev pub BoxesHoldTheirs : Type 0
@@ -60,9 +60,9 @@ BoxesHoldTheirs =
     → HoldsIts box
 
 -- Less than a pixel lies between the end of what a box has so far and the begin of its next transmission.
-abbrev pub AreClose : Scale → Pile → List Sent → Type 0
-AreClose scale pile [] = ⊤
-AreClose scale pile (x ∷ xs) = (place scale x.moment < place scale pile.end + pixel) × AreClose scale (grown pile x) xs
+abbrev pub AreClose : Scale → Cluster → List Sent → Type 0
+AreClose scale cluster [] = ⊤
+AreClose scale cluster (x ∷ xs) = (place scale x.moment < place scale cluster.end + pixel) × AreClose scale (grown cluster x) xs
 
 -- No box of a row covers quiet between two transmissions that takes a pixel.
 abbrev pub BoxesCoverNoQuiet : Type 0
@@ -78,7 +78,8 @@ with_stroke n area = record { left = area.left - n; top = area.top - n; width = 
 abbrev pub StrokesLieWithin : Type 0
 StrokesLieWithin =
     (scale : Scale) (row : Row) (box : Box) → IsScale scale
-    → with_stroke (overhang row (is_narrow scale (pile_of box).first)) (drawn_area scale row (pile_of box)) ≡ box_area scale row (pile_of box)
+    → with_stroke (overhang row (is_narrow scale (cluster_of box).first)) (drawn_area scale row (cluster_of box))
+    ≡ box_area scale row (cluster_of box)
 
 -- ---- rows
 -- All rows that are drawn after one of what is garbled lie below it. Boxes of the same row and timers may lie over a box.
@@ -94,9 +95,9 @@ GarbledAreUncovered = (lanes : List Lane) → AreUncovered (rows_of lanes)
 -- A box lies within its row.
 abbrev pub BoxesLieInRows : Type 0
 BoxesLieInRows =
-    (scale : Scale) (row : Row) (pile : Pile)
-    → (row.top ≤ (box_area scale row pile).top)
-    × ((box_area scale row pile).top + (box_area scale row pile).height ≤ row.top + row_height)
+    (scale : Scale) (row : Row) (cluster : Cluster)
+    → (row.top ≤ (box_area scale row cluster).top)
+    × ((box_area scale row cluster).top + (box_area scale row cluster).height ≤ row.top + row_height)
 
 -- Of two areas one lies above the other.
 abbrev pub AreApart : Area → Area → Type 0
@@ -112,15 +113,15 @@ pub record HidesNone (box : Area) (left width : ℕ) : Type 0 where
 -- Neither the line at a breach or at a fault nor its words above the plot hide a box, in no time line: these stand above all boxes.
 abbrev pub BreachesHideNoBox : Type 0
 BreachesHideNoBox =
-    (scale : Scale) (lanes : List Lane) (row : Row) (pile : Pile) (left width : ℕ) → In row (rows_of lanes)
-    → HidesNone (box_area scale row pile) left width × (breach_line + words_depth ≤ (box_area scale row pile).top)
+    (scale : Scale) (lanes : List Lane) (row : Row) (cluster : Cluster) (left width : ℕ) → In row (rows_of lanes)
+    → HidesNone (box_area scale row cluster) left width × (breach_line + words_depth ≤ (box_area scale row cluster).top)
 
 -- The words of transmit intervals, which stand in the first lane alone, lie above or below each box.
 abbrev pub IntervalWordsHideNoBox : Type 0
 IntervalWordsHideNoBox =
-    (scale : Scale) (lanes : List Lane) (row : Row) (pile : Pile) → In row (rows_of lanes)
-    → ((box_area scale row pile).top + (box_area scale row pile).height ≤ lane_top 0 + interval_line - interval_rise)
-    ⊎ (lane_top 0 + interval_line + interval_depth ≤ (box_area scale row pile).top)
+    (scale : Scale) (lanes : List Lane) (row : Row) (cluster : Cluster) → In row (rows_of lanes)
+    → ((box_area scale row cluster).top + (box_area scale row cluster).height ≤ lane_top 0 + interval_line - interval_rise)
+    ⊎ (lane_top 0 + interval_line + interval_depth ≤ (box_area scale row cluster).top)
 
 -- How many of these rows show a transmission.
 abbrev pub rows_with : Scale → List Row → Sent → ℕ

@@ -9,17 +9,18 @@ use Rattle.bus_dump.specs.declared.lane.Lane.{Lane}
 use Rattle.bus_shapes.specs.declared.scale.Scale.{Scale}
 use Rattle.bus_shapes.specs.declared.sent.Sent.{Sent}
 use Rattle.bus_shapes.specs.Sending.{sents}
-use Rattle.bus_picture.specs.Boxes.{Box, boxes, is_thin, pile_of}
+use Rattle.bus_picture.specs.Boxes.{Box, boxes, is_thin, cluster_of}
 use Rattle.bus_picture.specs.Intervals.{last_start}
 use Rattle.bus_picture.specs.Kinds.{Kinds, kinds_of}
 use Rattle.bus_picture.specs.Legends.{legend_garbled, legend_gaps, legend_horizon, legend_intervals, legend_message, legend_offsets}
-use Rattle.bus_picture.specs.Legends.{legend_shares, legend_tint}
+use Rattle.bus_picture.specs.Legends.{legend_shares, legend_overlap_band}
 use Rattle.bus_picture.specs.declared.measures.TheConstants.{PLOT_TOP as plot_top}
 use Rattle.bus_picture.specs.Offsets.{offsets_text}
 use Rattle.bus_picture.specs.Rows.{Row, shown}
 use Rattle.bus_picture.specs.TimeLines.{rows_of, unobserved_text}
-use Rattle.bus_picture.specs.Timers.{Track, interval_behind, is_near, last_lane_gap, line_before, sync_before, terminal_gap, track_of}
-use Rattle.bus_picture.specs.Tints.{tints_text}
+use Rattle.bus_picture.specs.Timers.{LaneTimings, interval_behind, is_near, last_lane_gap, line_before, sync_before, terminal_gap}
+use Rattle.bus_picture.specs.Timers.{timings_of}
+use Rattle.bus_picture.specs.OverlapBands.{overlap_bands_text}
 
 -- A box of a row that is drawn of these lanes.
 pub record HasBox (scale : Scale) (lanes : List Lane) (trace : Recording) (of : Row → Box → Type 0) : Type 0 where
@@ -35,23 +36,24 @@ IsMarked garbled row box = row.garbled ≡ garbled
 
 -- It is one of what takes less than a pixel, whose height goes by how busy it is.
 abbrev pub IsThin : Scale → Row → Box → Type 0
-IsThin scale row box = is_thin scale (pile_of box).first ≡ true
+IsThin scale row box = is_thin scale (cluster_of box).first ≡ true
 
--- Timers are drawn, and this is of lane k, the terminal of which is a sender: what is the same all along the lane is the track.
-pub record HasTimer (scale : Scale) (lanes : List Lane) (table : Table) (trace : Recording) (of : Track → Sender → Type 0) : Type 0 where
+-- Timers are drawn, and this is of lane k, the terminal of which is a sender: what is the same all along the lane are its timings.
+pub record HasTimer (scale : Scale) (lanes : List Lane) (table : Table) (trace : Recording) (of : LaneTimings → Sender → Type 0)
+    : Type 0 where
   pub k : ℕ
   pub lane : Lane
   pub sender : Sender
   pub near : is_near scale table.ti ≡ true
   pub drawn : slice_get lanes k ≡ Some lane
   pub sends : sender_of table.senders lane.terminal ≡ Some sender
-  pub is : of (track_of table trace.horizon k lane.terminal sender.tg) sender
+  pub is : of (timings_of table trace.horizon k lane.terminal sender.tg) sender
 
 -- The line of a terminal gap of a sender is written, before a transmission or behind all.
-abbrev pub WritesGap : Scale → Recording → Track → Sender → Type 0
-WritesGap scale trace track sender =
-    ((x : Sent) × In x (sents trace.list) × (line_before scale trace.list track x ≢ []))
-    ⊎ (terminal_gap scale track.top (last_lane_gap trace.list track) ≢ [])
+abbrev pub WritesGap : Scale → Recording → LaneTimings → Sender → Type 0
+WritesGap scale trace timings sender =
+    ((x : Sent) × In x (sents trace.list) × (line_before scale trace.list timings x ≢ []))
+    ⊎ (terminal_gap scale timings.top (last_lane_gap trace.list timings) ≢ [])
 
 -- The line of a synchronization gap is written on the bus, before a transmission.
 pub record WritesSync (scale : Scale) (table : Table) (trace : Recording) : Type 0 where
@@ -61,16 +63,16 @@ pub record WritesSync (scale : Scale) (table : Table) (trace : Recording) : Type
   pub line : sync_before scale plot_top table.sg sent ≢ []
 
 -- The line of a transmit interval of a sender is written, up to one of its starts or behind all.
-abbrev pub WritesInterval : Scale → Recording → Track → Sender → Type 0
-WritesInterval scale trace track sender =
-    ((x : Sent) × In x (sents trace.list) × (x.terminal ≡ track.terminal)
-    × (interval_behind scale track (last_start track.terminal (take x.at trace.list)) (Some x.moment) ≢ []))
-    ⊎ (interval_behind scale track (last_start track.terminal trace.list) None ≢ [])
+abbrev pub WritesInterval : Scale → Recording → LaneTimings → Sender → Type 0
+WritesInterval scale trace timings sender =
+    ((x : Sent) × In x (sents trace.list) × (x.terminal ≡ timings.terminal)
+    × (interval_behind scale timings (last_start timings.terminal (take x.at trace.list)) (Some x.moment) ≢ []))
+    ⊎ (interval_behind scale timings (last_start timings.terminal trace.list) None ≢ [])
 
 -- Ticks of the offset of a sender are written.
-abbrev pub WritesTicks : Scale → Table → Recording → Track → Sender → Type 0
-WritesTicks scale table trace track sender =
-    offsets_text table.mode scale track.top table.ti sender.at (held trace.holds track.terminal) ≢ []
+abbrev pub WritesTicks : Scale → Table → Recording → LaneTimings → Sender → Type 0
+WritesTicks scale table trace timings sender =
+    offsets_text table.mode scale timings.top table.ti sender.at (held trace.holds timings.terminal) ≢ []
 
 -- What the legend of a picture with these lanes and this lower edge of the plot writes at an upper edge: of each kind of marks something
 -- exactly where the picture has one.
@@ -78,7 +80,7 @@ pub record ListsDrawn (scale : Scale) (lanes : List Lane) (table : Table) (trace
   where
     pub messages : (legend_message kinds.messages top ≢ []) ↔ HasBox scale lanes trace (IsMarked false)
     pub garbled : (legend_garbled kinds.garbled top ≢ []) ↔ HasBox scale lanes trace (IsMarked true)
-    pub tints : (legend_tint kinds.tints top ≢ []) ↔ (tints_text scale bottom trace.list ≢ [])
+    pub overlap_bands : (legend_overlap_band kinds.overlap_bands top ≢ []) ↔ (overlap_bands_text scale bottom trace.list ≢ [])
     pub unobserved : (legend_horizon kinds.unobserved top ≢ []) ↔ (unobserved_text scale bottom trace.horizon ≢ [])
     pub gaps : (legend_gaps kinds.gaps top ≢ [])
         ↔ (HasTimer scale lanes table trace (WritesGap scale trace) ⊎ WritesSync scale table trace)

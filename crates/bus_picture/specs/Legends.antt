@@ -69,13 +69,13 @@ garbled_sample top =
 abbrev pub legend_garbled : Bool → ℕ → List ℕ
 legend_garbled there top = if there then garbled_sample top else []
 
--- A tint, with what it is.
-abbrev pub tint_sample : ℕ → List ℕ
-tint_sample top = sample_box Overlap overlap_left top column_width ++ sample_words overlap_words top (codes "two or more at once")
+-- An overlap band, with what it is.
+abbrev pub overlap_band_sample : ℕ → List ℕ
+overlap_band_sample top = sample_box Overlap overlap_left top column_width ++ sample_words overlap_words top (codes "two or more at once")
 
--- What it says of tints, where there is one.
-abbrev pub legend_tint : Bool → ℕ → List ℕ
-legend_tint there top = if there then tint_sample top else []
+-- What it says of overlap bands, where there is one.
+abbrev pub legend_overlap_band : Bool → ℕ → List ℕ
+legend_overlap_band there top = if there then overlap_band_sample top else []
 
 -- What lies behind the horizon, with what it is.
 abbrev pub horizon_sample : ℕ → List ℕ
@@ -126,9 +126,10 @@ shares_sample top =
 abbrev pub legend_shares : Bool → ℕ → List ℕ
 legend_shares there top = if there then shares_sample top else []
 
--- Its first row: what boxes and tints mean, of each kind that the picture has.
+-- Its first row: what boxes and overlap bands mean, of each kind that the picture has.
 abbrev pub legend_boxes : Kinds → ℕ → List ℕ
-legend_boxes kinds top = legend_message kinds.messages top ++ legend_garbled kinds.garbled top ++ legend_tint kinds.tints top
+legend_boxes kinds top =
+    legend_message kinds.messages top ++ legend_garbled kinds.garbled top ++ legend_overlap_band kinds.overlap_bands top
 
 -- Its second row: what is drawn behind and between boxes, and how high these are, of each kind that the picture has.
 abbrev pub legend_between : Kinds → ℕ → List ℕ

@@ -4,7 +4,7 @@ pub mod Boxes
 pub mod Takings
 pub mod Strings
 pub mod Rows
-pub mod Tints
+pub mod OverlapBands
 pub mod Gaps
 pub mod Intervals
 pub mod Offsets
@@ -19,7 +19,7 @@ pub mod Loads
 pub mod TimeLines
 pub mod Laws
 pub mod GapLaws
-pub mod TintLaws
+pub mod OverlapBandLaws
 pub mod TakingLaws
 pub mod OffsetLaws
 pub mod FaultLaws

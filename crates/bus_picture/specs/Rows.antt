@@ -15,7 +15,7 @@ use Rattle.bus_shapes.specs.Scales.{extent, place}
 use Rattle.bus_shapes.specs.Sending.{sents}
 use Rattle.bus_shapes.specs.declared.area.Area.{Area}
 use Rattle.bus_shapes.specs.Shapes.{titled_text}
-use Rattle.bus_picture.specs.Boxes.{Pile, boxes, is_narrow, pile_height, pile_of, pile_words}
+use Rattle.bus_picture.specs.Boxes.{Cluster, boxes, is_narrow, cluster_height, cluster_of, cluster_words}
 use Rattle.bus_picture.specs.Strings.{meets, strings_text}
 pub use Rattle.bus_picture.specs.declared.row.Row.{Row}
 use Rattle.bus_picture.specs.declared.measures.TheConstants.{BOX_BELOW as box_below, BOX_HEIGHT as box_height}
@@ -47,9 +47,9 @@ abbrev pub garbled_class : Bool → Class
 garbled_class narrow = if narrow then GarbledNarrow else Garbled
 
 -- How a box of a row looks: hatched where the row is garbled.
-abbrev pub box_class : Scale → Row → Pile → Class
-box_class scale row pile =
-    if row.garbled then garbled_class (is_narrow scale pile.first) else plain_class row.terminal (is_narrow scale pile.first)
+abbrev pub box_class : Scale → Row → Cluster → Class
+box_class scale row cluster =
+    if row.garbled then garbled_class (is_narrow scale cluster.first) else plain_class row.terminal (is_narrow scale cluster.first)
 
 -- How far the stroke of a box that isn't garbled reaches beyond its edges: of the bus it has none.
 abbrev pub plain_overhang : Option ℕ → ℕ
@@ -61,45 +61,46 @@ abbrev pub overhang : Row → Bool → ℕ
 overhang row narrow = if narrow then 0 else (if row.garbled then garbled_overhang else plain_overhang row.terminal)
 
 -- What a box has of the scale: its left edge and its width, from its upper edge on.
-abbrev pub stretch : Scale → Pile → ℕ → ℕ → Area
-stretch scale pile top height =
-    record { left = place scale pile.first.moment; top = top; width = extent scale pile.first.moment pile.end; height = height }
+abbrev pub stretch : Scale → Cluster → ℕ → ℕ → Area
+stretch scale cluster top height =
+    record { left = place scale cluster.first.moment; top = top; width = extent scale cluster.first.moment cluster.end; height = height }
 
 -- The wordstrings of a transmission.
 abbrev pub entry_text : Scale → Table → Row → List Entry → Sent → List ℕ
 entry_text scale table row list sent = option_map_or (strings_text scale table row.top sent) (slice_get list sent.at) []
 
 -- What is drawn in a box of a lane: the wordstrings of its one transmission, where that is not narrow.
-abbrev pub inner_text : Scale → Table → Row → List Entry → Pile → List ℕ
-inner_text scale table row list pile =
-    if nat_eq pile.count 1 && not (is_narrow scale pile.first) then entry_text scale table row list pile.first else []
+abbrev pub inner_text : Scale → Table → Row → List Entry → Cluster → List ℕ
+inner_text scale table row list cluster =
+    if nat_eq cluster.count 1 && not (is_narrow scale cluster.first) then entry_text scale table row list cluster.first else []
 
 -- What is drawn in a box: of the bus nothing, of a lane wordstrings.
-abbrev pub more_text : Option ℕ → Scale → Table → Row → List Entry → Pile → List ℕ
-more_text None scale table row list pile = []
-more_text (Some terminal) scale table row list pile = inner_text scale table row list pile
+abbrev pub more_text : Option ℕ → Scale → Table → Row → List Entry → Cluster → List ℕ
+more_text None scale table row list cluster = []
+more_text (Some terminal) scale table row list cluster = inner_text scale table row list cluster
 
 -- An area, so much less at each edge.
 abbrev pub inset : ℕ → Area → Area
 inset n area = record { left = area.left + n; top = area.top + n; width = area.width - 2 * n; height = area.height - 2 * n }
 
 -- The area of a box with its stroke, whose lower edge is that of all boxes of its row.
-abbrev pub box_area : Scale → Row → Pile → Area
-box_area scale row pile = stretch scale pile (row.top + box_below + (box_height - pile_height scale pile)) (pile_height scale pile)
+abbrev pub box_area : Scale → Row → Cluster → Area
+box_area scale row cluster =
+    stretch scale cluster (row.top + box_below + (box_height - cluster_height scale cluster)) (cluster_height scale cluster)
 
 -- The area of a box without its stroke, so that this lies within the former.
-abbrev pub drawn_area : Scale → Row → Pile → Area
-drawn_area scale row pile = inset (overhang row (is_narrow scale pile.first)) (box_area scale row pile)
+abbrev pub drawn_area : Scale → Row → Cluster → Area
+drawn_area scale row cluster = inset (overhang row (is_narrow scale cluster.first)) (box_area scale row cluster)
 
 -- A box, with what is drawn in it.
-abbrev pub pile_text : Scale → Table → Row → List Entry → Pile → List ℕ
-pile_text scale table row list pile =
-    titled_text (box_class scale row pile) (drawn_area scale row pile) (pile_words scale pile)
-    ++ more_text row.terminal scale table row list pile
+abbrev pub cluster_text : Scale → Table → Row → List Entry → Cluster → List ℕ
+cluster_text scale table row list cluster =
+    titled_text (box_class scale row cluster) (drawn_area scale row cluster) (cluster_words scale cluster)
+    ++ more_text row.terminal scale table row list cluster
 
 -- A row: its boxes.
 abbrev pub row_text : Scale → Table → Row → List Entry → List ℕ
-row_text scale table row list = flat_map (λ box. pile_text scale table row list (pile_of box)) (boxes scale (shown scale row list))
+row_text scale table row list = flat_map (λ box. cluster_text scale table row list (cluster_of box)) (boxes scale (shown scale row list))
 
 -- Rows, one drawn after the other.
 abbrev pub rows_text : Scale → Table → List Entry → List Row → List ℕ

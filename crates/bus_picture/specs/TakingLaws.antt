@@ -1,4 +1,4 @@
--- What the titles of wordstrings tell of who takes them. The contract of `laws::takers_receive` says that each of these laws holds.
+-- What the titles of wordstrings tell of who takes them. The contract of `laws::receivers_are_named` says that each of these laws holds.
 use Rattle.std.specs.Prelude.{◌≡◌, ◌↔◌, ℕ, ◌<◌, ◌≤◌, Bool, List, [], length, if◌then◌else◌}
 use Rattle.std.specs.List.{flat_map, zip}
 use Rattle.bus_strings.specs.Limits.{most_terminal}

@@ -32,8 +32,8 @@ use Rattle.bus_picture.specs.Faults.{told_text}
 use Rattle.bus_picture.specs.Offsets.{offsets_text}
 use Rattle.bus_picture.specs.Paces.{paces_text}
 use Rattle.bus_picture.specs.Rows.{Row, rows_text}
-use Rattle.bus_picture.specs.Tints.{tints_text}
-use Rattle.bus_picture.specs.Timers.{bus_timer, is_near, sender_timers, track_of}
+use Rattle.bus_picture.specs.OverlapBands.{overlap_bands_text}
+use Rattle.bus_picture.specs.Timers.{bus_timer, is_near, sender_timers, timings_of}
 use Rattle.bus_picture.specs.declared.measures.TheConstants.{BUS_LINE as bus_line, FOOT_HEIGHT as foot_height}
 use Rattle.bus_picture.specs.declared.measures.TheConstants.{LEFT_OUT_LINE as left_out_line, LEGEND_BELOW as legend_below}
 use Rattle.bus_picture.specs.declared.measures.TheConstants.{LOWER_WORDS as lower_words, NAMES_RIGHT as names_right}
@@ -115,7 +115,7 @@ rows_of lanes = bus_rows ++ rows_of_lanes lanes
 -- The timers of a sender in lane k, and where it should start.
 abbrev pub lane_sender : Scale → Table → Recording → ℕ → Lane → Sender → List ℕ
 lane_sender scale table trace k lane sender =
-    sender_timers scale trace.list (track_of table trace.horizon k lane.terminal sender.tg)
+    sender_timers scale trace.list (timings_of table trace.horizon k lane.terminal sender.tg)
     ++ offsets_text table.mode scale (lane_top k) table.ti sender.at (held trace.holds lane.terminal)
 
 -- The same of lane k, where its terminal is a sender.
@@ -162,7 +162,7 @@ plot_text scale bottom lanes told table trace =
     ++ loads_text scale lanes trace.list
     ++ each_lane (lane_front table) 0 lanes
     ++ axes_text scale bottom ++ unobserved_text scale bottom trace.horizon
-    ++ tints_text scale bottom trace.list ++ rows_text scale table trace.list (rows_of lanes) ++ timers_text scale lanes table trace
+    ++ overlap_bands_text scale bottom trace.list ++ rows_text scale table trace.list (rows_of lanes) ++ timers_text scale lanes table trace
     ++ told_text scale table.ti lanes told trace.list
 
 -- What stands below the plot of a picture with these kinds of marks: how many lanes are left out, and the legend.

@@ -23,7 +23,7 @@ use Rattle.bus_picture.specs.declared.measures.TheConstants.{INTERVAL_LINE as in
 use Rattle.bus_picture.specs.declared.measures.TheConstants.{LINE_HEIGHT as line_height, NARROW as narrow, NEAR_ROOM as near_room}
 use Rattle.bus_picture.specs.declared.measures.TheConstants.{PLOT_LEFT as plot_left, STROKE_BELOW as stroke_below}
 use Rattle.bus_picture.specs.declared.measures.TheConstants.{STROKE_HEIGHT as stroke_height}
-pub use Rattle.bus_picture.specs.declared.track.Track.{Track}
+pub use Rattle.bus_picture.specs.declared.lane_timings.LaneTimings.{LaneTimings}
 
 -- Whether timers are drawn: the transmit interval is at least 200 pixels.
 abbrev pub is_near : Scale → ℕ → Bool
@@ -75,8 +75,8 @@ bus_timer scale top sg list = flat_map (sync_before scale top sg) (sents list)
 
 -- ---- a lane
 -- What is the same all along lane k of a trace with this horizon, of a sender with this terminal and this terminal gap.
-abbrev pub track_of : Table → ℕ → ℕ → ℕ → ℕ → Track
-track_of table horizon k terminal tg = record {
+abbrev pub timings_of : Table → ℕ → ℕ → ℕ → ℕ → LaneTimings
+timings_of table horizon k terminal tg = record {
   k = k;
   top = lane_top k;
   terminal = terminal;
@@ -127,46 +127,47 @@ interval_words scale k top ti from to =
     then words_text IntervalWords (place scale to) (top + interval_line) (codes "TI " ++ decimal ti) else []
 
 -- A transmit interval from a start to its end, in a lane.
-abbrev pub interval_at : Scale → Track → ℕ → ℕ → List ℕ
-interval_at scale track from to =
+abbrev pub interval_at : Scale → LaneTimings → ℕ → ℕ → List ℕ
+interval_at scale timings from to =
     if is_drawn scale from to
-    then interval_text scale track.top from to ++ interval_end scale track.top track.ti from to
-    ++ interval_words scale track.k track.top track.ti from to
+    then interval_text scale timings.top from to ++ interval_end scale timings.top timings.ti from to
+    ++ interval_words scale timings.k timings.top timings.ti from to
     else []
 
 -- The one from the last start of the sender, where there is one, to its next, where there is one.
-abbrev pub interval_behind : Scale → Track → Option ℕ → Option ℕ → List ℕ
-interval_behind scale track None next = []
-interval_behind scale track (Some moment) next = interval_at scale track moment (interval_to track.ti moment next)
+abbrev pub interval_behind : Scale → LaneTimings → Option ℕ → Option ℕ → List ℕ
+interval_behind scale timings None next = []
+interval_behind scale timings (Some moment) next = interval_at scale timings moment (interval_to timings.ti moment next)
 
 -- The terminal gap of the sender before a transmission, its own or another's.
-abbrev pub lane_gap : List Entry → Track → Sent → gaps.Gap
-lane_gap list track x = gap_before track.quiet track.sg track.tg track.terminal list x
+abbrev pub lane_gap : List Entry → LaneTimings → Sent → gaps.Gap
+lane_gap list timings x = gap_before timings.quiet timings.sg timings.tg timings.terminal list x
 
 -- The one behind all transmissions, as far as the horizon.
-abbrev pub last_lane_gap : List Entry → Track → gaps.Gap
-last_lane_gap list track = gap_behind track.quiet track.sg track.tg track.terminal list track.horizon
+abbrev pub last_lane_gap : List Entry → LaneTimings → gaps.Gap
+last_lane_gap list timings = gap_behind timings.quiet timings.sg timings.tg timings.terminal list timings.horizon
 
 -- Its line before a transmission, once for all that begin at a moment.
-abbrev pub line_before : Scale → List Entry → Track → Sent → List ℕ
-line_before scale list track x = if is_first list x then terminal_gap scale track.top (lane_gap list track x) else []
+abbrev pub line_before : Scale → List Entry → LaneTimings → Sent → List ℕ
+line_before scale list timings x = if is_first list x then terminal_gap scale timings.top (lane_gap list timings x) else []
 
 -- At a start of the sender: the transmit interval from its last start to this one, and the words of the terminal gap before this one.
-abbrev pub start_at : Scale → List Entry → Track → Sent → List ℕ
-start_at scale list track x =
-    interval_behind scale track (last_start track.terminal (take x.at list)) (Some x.moment)
-    ++ gap_words scale track.top track.tg (lane_gap list track x)
+abbrev pub start_at : Scale → List Entry → LaneTimings → Sent → List ℕ
+start_at scale list timings x =
+    interval_behind scale timings (last_start timings.terminal (take x.at list)) (Some x.moment)
+    ++ gap_words scale timings.top timings.tg (lane_gap list timings x)
 
 -- The timers of a sender at a transmission: the terminal gap that ends by then, and, where that is a start of the sender, what ends there.
-abbrev pub timers_at : Scale → List Entry → Track → Sent → List ℕ
-timers_at scale list track x = line_before scale list track x ++ (if x.terminal == track.terminal then start_at scale list track x else [])
+abbrev pub timers_at : Scale → List Entry → LaneTimings → Sent → List ℕ
+timers_at scale list timings x =
+    line_before scale list timings x ++ (if x.terminal == timings.terminal then start_at scale list timings x else [])
 
 -- Those behind all transmissions: the terminal gap, as far as the horizon, and the transmit interval from the last start of the sender.
-abbrev pub timers_behind : Scale → List Entry → Track → List ℕ
-timers_behind scale list track =
-    terminal_gap scale track.top (last_lane_gap list track)
-    ++ interval_behind scale track (last_start track.terminal list) None
+abbrev pub timers_behind : Scale → List Entry → LaneTimings → List ℕ
+timers_behind scale list timings =
+    terminal_gap scale timings.top (last_lane_gap list timings)
+    ++ interval_behind scale timings (last_start timings.terminal list) None
 
 -- The timers of a sender: at each transmission, and behind all.
-abbrev pub sender_timers : Scale → List Entry → Track → List ℕ
-sender_timers scale list track = flat_map (timers_at scale list track) (sents list) ++ timers_behind scale list track
+abbrev pub sender_timers : Scale → List Entry → LaneTimings → List ℕ
+sender_timers scale list timings = flat_map (timers_at scale list timings) (sents list) ++ timers_behind scale list timings

@@ -5,18 +5,17 @@ ghost use Rattle.bus_shapes.specs.Scales.{IsScale};
 ghost use Rattle.bus_shapes.specs.Sending.{sents as sents_of};
 ghost use Rattle.bus_picture.specs.Rows as definition;
 ghost use Rattle.bus_picture.specs.inside.Working as working;
-ghost use Rattle.bus_picture.specs.inside.Working.{IsLast, IsPile, held};
+ghost use Rattle.bus_picture.specs.inside.Working.{IsCluster, IsLast, held};
 
+use crate::canvas::Canvas;
+use crate::cluster::{Cluster, cluster_height, is_narrow, joins, put_cluster_words};
 use crate::measures::{BOX_BELOW, BOX_HEIGHT};
-use crate::pile::{Pile, is_narrow, joins, pile_height, put_pile_words};
 use crate::places::meets;
 use crate::row::Row;
 use crate::strings::put_strings;
 use crate::strokes::{inset, overhang};
-use crate::takers::Takers;
 use bus_outer::{Sink, TextBuffer};
 use bus_shapes::{Area, Class, Scale, Sent, begin_titled, end_titled};
-use bus_strings::Transmission;
 
 /// Whether a transmission is of the row, is garbled exactly where that is, and meets the moments of the scale.
 fn shows(scale: &Scale, row: &Row, sent: &Sent) -> bool
@@ -30,12 +29,12 @@ fn shows(scale: &Scale, row: &Row, sent: &Sent) -> bool
 }
 
 /// How a box of a row looks.
-fn box_class(scale: &Scale, row: &Row, pile: &Pile) -> Class
+fn box_class(scale: &Scale, row: &Row, cluster: &Cluster) -> Class
     requires scale { IsScale scale.now }
-    requires pile { IsPile pile.now }
-    ensures { result ≡ definition.box_class scale.now row.now pile.now }
+    requires cluster { IsCluster cluster.now }
+    ensures { result ≡ definition.box_class scale.now row.now cluster.now }
 {
-    let narrow = is_narrow(scale, &pile.first);
+    let narrow = is_narrow(scale, &cluster.first);
     if row.garbled {
         return if narrow {
             Class::GarbledNarrow
@@ -54,17 +53,17 @@ fn box_class(scale: &Scale, row: &Row, pile: &Pile) -> Class
 }
 
 /// What a box has of the scale: its left edge and its width, from its upper edge on.
-fn stretch(scale: &Scale, pile: &Pile, top: u64, height: u64) -> Area
+fn stretch(scale: &Scale, cluster: &Cluster, top: u64, height: u64) -> Area
     requires scale { IsScale scale.now }
-    requires pile { IsPile pile.now }
-    ensures value { result ≡ definition.stretch scale.now pile.now top height }
+    requires cluster { IsCluster cluster.now }
+    ensures value { result ≡ definition.stretch scale.now cluster.now top height }
     ensures left { result.left < 2 ^ 22 }
     ensures top { result.top ≡ top }
 {
     Area {
-        left: scale.place(pile.first.moment),
+        left: scale.place(cluster.first.moment),
         top,
-        width: scale.extent(pile.first.moment, pile.end),
+        width: scale.extent(cluster.first.moment, cluster.end),
         height,
     }
 }
@@ -73,19 +72,17 @@ fn stretch(scale: &Scale, pile: &Pile, top: u64, height: u64) -> Area
 fn put_entry<K: Sink>(
     text: &mut TextBuffer,
     sink: &mut K,
-    scale: &Scale,
-    takers: &Takers<'_>,
+    canvas: &Canvas<'_>,
     row: &Row,
-    list: &[Transmission],
     sent: &Sent,
 )
-    requires scale { IsScale scale.now }
+    requires scale { IsScale canvas.now.scale }
     requires top { row.now.top < 2 ^ 40 }
     ensures { Adds K.held K.faults sink.old sink.new text.old text.new
-        (definition.entry_text scale.now takers.now row.now list.now sent.now) }
+        (definition.entry_text canvas.now.scale canvas.now.receivers.now row.now canvas.now.list.now sent.now) }
 {
-    if let Some(x) = list.get(sent.at) {
-        put_strings(text, sink, scale, takers, row.top, sent, x);
+    if let Some(x) = canvas.list.get(sent.at) {
+        put_strings(text, sink, canvas, row.top, sent, x);
     }
 }
 
@@ -93,20 +90,18 @@ fn put_entry<K: Sink>(
 fn put_inner<K: Sink>(
     text: &mut TextBuffer,
     sink: &mut K,
-    scale: &Scale,
-    takers: &Takers<'_>,
+    canvas: &Canvas<'_>,
     row: &Row,
-    list: &[Transmission],
-    pile: &Pile,
+    cluster: &Cluster,
 )
-    requires scale { IsScale scale.now }
-    requires pile { IsPile pile.now }
+    requires scale { IsScale canvas.now.scale }
+    requires cluster { IsCluster cluster.now }
     requires top { row.now.top < 2 ^ 40 }
     ensures { Adds K.held K.faults sink.old sink.new text.old text.new
-        (definition.inner_text scale.now takers.now row.now list.now pile.now) }
+        (definition.inner_text canvas.now.scale canvas.now.receivers.now row.now canvas.now.list.now cluster.now) }
 {
-    if pile.count == 1 && !is_narrow(scale, &pile.first) {
-        put_entry(text, sink, scale, takers, row, list, &pile.first);
+    if cluster.count == 1 && !is_narrow(&canvas.scale, &cluster.first) {
+        put_entry(text, sink, canvas, row, &cluster.first);
     }
 }
 
@@ -114,75 +109,69 @@ fn put_inner<K: Sink>(
 fn put_more<K: Sink>(
     text: &mut TextBuffer,
     sink: &mut K,
-    scale: &Scale,
-    takers: &Takers<'_>,
+    canvas: &Canvas<'_>,
     row: &Row,
-    list: &[Transmission],
-    pile: &Pile,
+    cluster: &Cluster,
 )
-    requires scale { IsScale scale.now }
-    requires pile { IsPile pile.now }
+    requires scale { IsScale canvas.now.scale }
+    requires cluster { IsCluster cluster.now }
     requires top { row.now.top < 2 ^ 40 }
     ensures { Adds K.held K.faults sink.old sink.new text.old text.new
-        (definition.more_text row.now.terminal scale.now takers.now row.now list.now pile.now) }
+        (definition.more_text row.now.terminal canvas.now.scale canvas.now.receivers.now row.now canvas.now.list.now cluster.now) }
 {
     match row.terminal {
         None => {}
-        Some(_) => put_inner(text, sink, scale, takers, row, list, pile),
+        Some(_) => put_inner(text, sink, canvas, row, cluster),
     }
 }
 
 /// A box.
-fn put_pile<K: Sink>(
+fn put_cluster<K: Sink>(
     text: &mut TextBuffer,
     sink: &mut K,
-    scale: &Scale,
-    takers: &Takers<'_>,
+    canvas: &Canvas<'_>,
     row: &Row,
-    list: &[Transmission],
-    pile: &Pile,
+    cluster: &Cluster,
 )
-    requires scale { IsScale scale.now }
-    requires pile { IsPile pile.now }
+    requires scale { IsScale canvas.now.scale }
+    requires cluster { IsCluster cluster.now }
     requires top { row.now.top < 2 ^ 40 }
     ensures { Adds K.held K.faults sink.old sink.new text.old text.new
-        (definition.pile_text scale.now takers.now row.now list.now pile.now) }
+        (definition.cluster_text canvas.now.scale canvas.now.receivers.now row.now canvas.now.list.now cluster.now) }
 {
-    let height = pile_height(scale, pile);
+    let height = cluster_height(&canvas.scale, cluster);
     let whole = stretch(
-        scale,
-        pile,
+        &canvas.scale,
+        cluster,
         row.top + BOX_BELOW + (BOX_HEIGHT - height),
         height,
     );
-    let narrow = is_narrow(scale, &pile.first);
+    let narrow = is_narrow(&canvas.scale, &cluster.first);
     let area = inset(overhang(row, narrow), whole);
-    begin_titled(text, sink, box_class(scale, row, pile), area);
-    put_pile_words(text, sink, scale, pile);
+    begin_titled(text, sink, box_class(&canvas.scale, row, cluster), area);
+    put_cluster_words(text, sink, &canvas.scale, cluster);
     end_titled(text, sink);
-    put_more(text, sink, scale, takers, row, list, pile);
+    put_more(text, sink, canvas, row, cluster);
 }
 
 /// A box, where the next transmission doesn't share it.
 fn put_unshared<K: Sink>(
     text: &mut TextBuffer,
     sink: &mut K,
-    scale: &Scale,
-    takers: &Takers<'_>,
+    canvas: &Canvas<'_>,
     row: &Row,
-    list: &[Transmission],
-    pile: &Pile,
+    cluster: &Cluster,
     sent: &Sent,
 )
-    requires scale { IsScale scale.now }
-    requires pile { IsPile pile.now }
+    requires scale { IsScale canvas.now.scale }
+    requires cluster { IsCluster cluster.now }
     requires top { row.now.top < 2 ^ 40 }
     ensures { Adds K.held K.faults sink.old sink.new text.old text.new
-        (working.unshared scale.now takers.now row.now list.now pile.now sent.now) }
+        (working.unshared canvas.now.scale canvas.now.receivers.now row.now canvas.now.list.now cluster.now sent.now) }
 {
-    let shared = joins(scale, pile, sent);
+    let shared = joins(&canvas.scale, cluster, sent);
     if !shared {
-        put_pile(text, sink, scale, takers, row, list, pile);
+        put_cluster(text, sink, canvas, row, cluster);
     }
 }
 
@@ -190,27 +179,25 @@ fn put_unshared<K: Sink>(
 fn put_written<K: Sink>(
     text: &mut TextBuffer,
     sink: &mut K,
-    scale: &Scale,
-    takers: &Takers<'_>,
+    canvas: &Canvas<'_>,
     row: &Row,
-    list: &[Transmission],
-    last: &Option<Pile>,
+    last: &Option<Cluster>,
     sent: &Sent,
 )
-    requires scale { IsScale scale.now }
+    requires scale { IsScale canvas.now.scale }
     requires last { IsLast last.now }
     requires sent { sent.now.moment ≤ sent.now.end }
     requires top { row.now.top < 2 ^ 40 }
     ensures { Adds K.held K.faults sink.old sink.new text.old text.new
-        (working.written scale.now takers.now row.now list.now last.now sent.now) }
+        (working.written canvas.now.scale canvas.now.receivers.now row.now canvas.now.list.now last.now sent.now) }
 {
-    if let Some(pile) = last {
-        put_unshared(text, sink, scale, takers, row, list, pile, sent);
+    if let Some(cluster) = last {
+        put_unshared(text, sink, canvas, row, cluster, sent);
     }
 }
 
 /// The last box, where a transmission that is shown comes next.
-fn with_next(scale: &Scale, last: &Option<Pile>, sent: &Sent) -> Pile
+fn with_next(scale: &Scale, last: &Option<Cluster>, sent: &Sent) -> Cluster
     requires scale { IsScale scale.now }
     requires last { IsLast last.now }
     requires sent { sent.now.moment ≤ sent.now.end }
@@ -218,12 +205,12 @@ fn with_next(scale: &Scale, last: &Option<Pile>, sent: &Sent) -> Pile
     ensures { result ≡ working.with_next scale.now last.now sent.now }
 {
     match last {
-        None => Pile::one(*sent),
-        Some(pile) => {
-            if joins(scale, pile, sent) {
-                pile.grown(sent)
+        None => Cluster::one(*sent),
+        Some(cluster) => {
+            if joins(scale, cluster, sent) {
+                cluster.grown(sent)
             } else {
-                Pile::one(*sent)
+                Cluster::one(*sent)
             }
         }
     }
@@ -233,20 +220,18 @@ fn with_next(scale: &Scale, last: &Option<Pile>, sent: &Sent) -> Pile
 fn put_last<K: Sink>(
     text: &mut TextBuffer,
     sink: &mut K,
-    scale: &Scale,
-    takers: &Takers<'_>,
+    canvas: &Canvas<'_>,
     row: &Row,
-    list: &[Transmission],
-    last: &Option<Pile>,
+    last: &Option<Cluster>,
 )
-    requires scale { IsScale scale.now }
+    requires scale { IsScale canvas.now.scale }
     requires last { IsLast last.now }
     requires top { row.now.top < 2 ^ 40 }
     ensures { Adds K.held K.faults sink.old sink.new text.old text.new
-        (working.last_written scale.now takers.now row.now list.now last.now) }
+        (working.last_written canvas.now.scale canvas.now.receivers.now row.now canvas.now.list.now last.now) }
 {
-    if let Some(pile) = last {
-        put_pile(text, sink, scale, takers, row, list, pile);
+    if let Some(cluster) = last {
+        put_cluster(text, sink, canvas, row, cluster);
     }
 }
 
@@ -254,23 +239,22 @@ fn put_last<K: Sink>(
 pub(crate) fn put_row<K: Sink>(
     text: &mut TextBuffer,
     sink: &mut K,
-    scale: &Scale,
-    takers: &Takers<'_>,
+    canvas: &Canvas<'_>,
     row: &Row,
-    list: &[Transmission],
     sents: &[Sent],
 )
-    requires scale { IsScale scale.now }
-    requires all { sents.now ≡ sents_of list.now }
+    requires scale { IsScale canvas.now.scale }
+    requires all { sents.now ≡ sents_of canvas.now.list.now }
     requires top { row.now.top < 2 ^ 40 }
-    ensures { Adds K.held K.faults sink.old sink.new text.old text.new (definition.row_text scale.now takers.now row.now list.now) }
+    ensures { Adds K.held K.faults sink.old sink.new text.old text.new
+        (definition.row_text canvas.now.scale canvas.now.receivers.now row.now canvas.now.list.now) }
 {
     let mut last = None;
     for sent in sents {
-        if shows(scale, row, sent) {
-            put_written(text, sink, scale, takers, row, list, &last, sent);
-            last = Some(with_next(scale, &last, sent));
+        if shows(&canvas.scale, row, sent) {
+            put_written(text, sink, canvas, row, &last, sent);
+            last = Some(with_next(&canvas.scale, &last, sent));
         }
     }
-    put_last(text, sink, scale, takers, row, list, &last);
+    put_last(text, sink, canvas, row, &last);
 }

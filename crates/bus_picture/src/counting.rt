@@ -4,7 +4,7 @@ ghost use Rattle.bus_strings.specs.Transmissions.{IsByMoment};
 ghost use Rattle.bus_shapes.specs.Scales.{IsScale};
 ghost use Rattle.bus_picture.specs.Kinds as definition;
 
-use crate::pile::is_thin;
+use crate::cluster::is_thin;
 use crate::places::meets;
 use bus_shapes::{Counts, Scale, Sent, Sents};
 use bus_strings::Transmission;

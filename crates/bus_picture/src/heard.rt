@@ -4,7 +4,7 @@ ghost use Rattle.bus_strings.specs.Transmissions.{end_of};
 ghost use Rattle.bus_picture.specs.Gaps as definition;
 ghost use Rattle.bus_picture.specs.inside.Starting as working;
 
-use crate::track::Track;
+use crate::lane_timings::LaneTimings;
 use bus_strings::Transmission;
 
 /// What a terminal has heard of transmissions. A place is a moment that is counted from the beginning of the quiet before the settled
@@ -82,14 +82,14 @@ pub(crate) fn deaf(sg: u32) -> Hearing
 }
 
 /// What a terminal has heard with one transmission more.
-pub(crate) fn hear(track: Track, hearing: Hearing, x: &Transmission) -> Hearing
+pub(crate) fn hear(timings: LaneTimings, hearing: Hearing, x: &Transmission) -> Hearing
     requires before { hearing.before.quiet_from ≤ 2 ^ 42 }
     requires all { hearing.all.quiet_from ≤ 2 ^ 42 }
-    ensures value { result ≡ working.hear track.quiet track.sg track.terminal hearing x.now }
+    ensures value { result ≡ working.hear timings.quiet timings.sg timings.terminal hearing x.now }
     ensures before { result.before.quiet_from ≤ 2 ^ 42 }
     ensures all { result.all.quiet_from ≤ 2 ^ 42 }
 {
-    let all = heard_more(track.quiet, track.sg, track.terminal, hearing.all, x);
+    let all = heard_more(timings.quiet, timings.sg, timings.terminal, hearing.all, x);
     let first = hearing.moment < x.moment;
     let before = if first { hearing.all } else { hearing.before };
     Hearing {
@@ -101,16 +101,16 @@ pub(crate) fn hear(track: Track, hearing: Hearing, x: &Transmission) -> Hearing
 }
 
 /// The terminal gap of a sender that has heard this, up to a moment.
-pub(crate) fn gap_from(track: Track, heard: Heard, moment: u64) -> Gap
+pub(crate) fn gap_from(timings: LaneTimings, heard: Heard, moment: u64) -> Gap
     requires { heard.quiet_from ≤ 2 ^ 42 }
-    ensures { result ≡ working.heard_gap track heard moment }
+    ensures { result ≡ working.heard_gap timings heard moment }
 {
-    let waits = if heard.synchronized { 0 } else { track.sg };
+    let waits = if heard.synchronized { 0 } else { timings.sg };
     let place = heard.quiet_from + u64::from(waits);
     Gap {
-        from: place.saturating_sub(u64::from(track.quiet)),
-        to: (place + u64::from(track.tg))
-            .saturating_sub(u64::from(track.quiet))
+        from: place.saturating_sub(u64::from(timings.quiet)),
+        to: (place + u64::from(timings.tg))
+            .saturating_sub(u64::from(timings.quiet))
             .min(moment),
     }
 }

@@ -4,9 +4,9 @@ ghost use Rattle.bus_shapes.specs.Scales.{IsScale};
 ghost use Rattle.bus_picture.specs.Kinds as definition;
 
 use crate::counting::has_thin;
-use crate::lined::has_sync;
-use crate::near::{are_near, lanes_have};
-use crate::tints::has_tints;
+use crate::drawn_lines::has_sync;
+use crate::overlap_bands::has_overlap_bands;
+use crate::timer_marks::{are_near, lanes_have};
 use bus_dump::Lane;
 use bus_shapes::{Counts, Scale};
 use bus_table::Table;
@@ -19,8 +19,8 @@ pub struct Kinds {
     pub messages: bool,
     /// A box of what is garbled.
     pub garbled: bool,
-    /// The tint of two or more at once.
-    pub tints: bool,
+    /// An overlap band, of two or more at once.
+    pub overlap_bands: bool,
     /// What lies behind the horizon.
     pub unobserved: bool,
     /// The line of a gap, of the bus or of a sender.
@@ -78,7 +78,7 @@ pub(crate) fn kinds_of(
     Kinds {
         messages: counts.garbled < counts.shown,
         garbled: 0 < counts.garbled,
-        tints: has_tints(scale, trace),
+        overlap_bands: has_overlap_bands(scale, trace),
         unobserved: trace.horizon() < scale.to,
         gaps: has_gaps(scale, table, trace, lanes),
         intervals: has_timed(scale, table, trace, TimerMark::Intervals, lanes),

@@ -1,14 +1,15 @@
-//! Laws of the time line: its boxes, marks, tints and numbers. Each is the contract of a function that does nothing.
+//! Laws of the time line: its boxes, marks, overlap bands and numbers. Each is the contract of a function that does nothing.
 ghost use Rattle.bus_picture.specs.GapLaws.{GapsAreAll, GapsAreTrue, LastGapsAreTrue, SyncGapsAreTrue};
 ghost use Rattle.bus_picture.specs.GapLaws.{IntervalsAreAll, IntervalsAreTrue, LastIntervalsAreTrue};
 ghost use Rattle.bus_picture.specs.FaultLaws.{CableIsUnmarked, FaultsAreMarked, FaultsHaveLanes, NoneIsMarked};
 ghost use Rattle.bus_picture.specs.OffsetLaws.{OffsetsAreMarked};
 ghost use Rattle.bus_picture.specs.Laws.{BoxesCoverNoQuiet, BoxesHoldRows, BoxesHoldTheirs, BoxesLieInRows, BreachesHideNoBox};
-ghost use Rattle.bus_picture.specs.Laws.{BusIsCounted, EachIsOnTheBus, IntervalWordsHideNoBox, LoadIsAShare, StrokesLieWithin, TailsAreQuiet};
+ghost use Rattle.bus_picture.specs.Laws.{BusIsCounted, EachIsOnTheBus, IntervalWordsHideNoBox, LoadIsAShare, StrokesLieWithin};
+ghost use Rattle.bus_picture.specs.Laws.{TailsAreQuiet};
 ghost use Rattle.bus_picture.specs.Laws.{EachIsInOneLane, GarbledAreUncovered, HatchedAreGarbled, LanesAreCounted, LeftOutAreSilent};
 ghost use Rattle.bus_picture.specs.LegendLaws.{LegendListsWhatIsDrawn};
 ghost use Rattle.bus_picture.specs.TakingLaws.{NamedReceive, ReceivesStrings};
-ghost use Rattle.bus_picture.specs.TintLaws.{OverlapsAreTinted, TintsAreOverlaps};
+ghost use Rattle.bus_picture.specs.OverlapBandLaws.{BandsAreOverlaps, OverlapsHaveBands};
 
 use bus_dump::laws::lanes_are_terminals;
 use bus_shapes::laws::{places_keep_order, sents_are_told};
@@ -105,11 +106,11 @@ pub fn offsets_are_marked()
     ensures { OffsetsAreMarked }
 {}
 
-/// Each bit time of the window at which two transmissions are sent is tinted; and at each bit time that is tinted two are sent, or at one
-/// behind it that is less than a pixel away.
-pub fn tints_are_overlaps()
-    ensures tinted { OverlapsAreTinted }
-    ensures overlaps { TintsAreOverlaps }
+/// Each bit time of the window at which two transmissions are sent is in an overlap band; and at each bit time of such a band two are sent,
+/// or at one behind it that is less than a pixel away.
+pub fn bands_are_overlaps()
+    ensures banded { OverlapsHaveBands }
+    ensures overlaps { BandsAreOverlaps }
 {
     sents_are_told();
     places_keep_order();
@@ -123,7 +124,7 @@ pub fn left_out_are_silent()
 
 /// The terminals that the title of a wordstring names are those that receive words of it, and what a terminal receives of a list is what it
 /// receives of each wordstring.
-pub fn takers_receive()
+pub fn receivers_are_named()
     ensures named { NamedReceive }
     ensures strings { ReceivesStrings }
 {}
@@ -143,8 +144,8 @@ pub fn cable_is_unmarked()
     ensures { CableIsUnmarked }
 {}
 
-/// The legend lists each kind of marks exactly where the picture has one: a box of what isn't garbled or of what is, a tint, what lies
-/// behind the horizon, the line of a gap or of a transmit interval, the tick of an offset, and a box of what takes less than a pixel.
+/// The legend lists each kind of marks exactly where the picture has one: a box of what isn't garbled or of what is, an overlap band, what
+/// lies behind the horizon, the line of a gap or of a transmit interval, the tick of an offset, and a box of what takes less than a pixel.
 pub fn legend_lists_what_is_drawn()
     ensures { LegendListsWhatIsDrawn }
 {}

@@ -59,7 +59,7 @@ const GARBLED_WORDS: u64 = 6980;
 /// The width of the samples behind these.
 pub(crate) const COLUMN_WIDTH: u64 = 300;
 
-/// Where the sample of a tint begins.
+/// Where the sample of an overlap band begins.
 const OVERLAP_LEFT: u64 = 7700;
 
 /// Where the words on it begin.
@@ -184,10 +184,10 @@ fn put_all_garbled<K: Sink>(text: &mut TextBuffer, sink: &mut K, there: bool, to
     }
 }
 
-/// Tints, where there is one.
-fn put_tint<K: Sink>(text: &mut TextBuffer, sink: &mut K, there: bool, top: u64)
+/// Overlap bands, where there are any.
+fn put_overlap_band<K: Sink>(text: &mut TextBuffer, sink: &mut K, there: bool, top: u64)
     requires { top < 200000 }
-    ensures { Adds K.held K.faults sink.old sink.new text.old text.new (definition.legend_tint there top) }
+    ensures { Adds K.held K.faults sink.old sink.new text.old text.new (definition.legend_overlap_band there top) }
 {
     if there {
         put_sample(text, sink, Class::Overlap, OVERLAP_LEFT, top, COLUMN_WIDTH);
@@ -195,14 +195,14 @@ fn put_tint<K: Sink>(text: &mut TextBuffer, sink: &mut K, there: bool, top: u64)
     }
 }
 
-/// The row of boxes and tints, of each kind that the picture has.
+/// The row of boxes and overlap bands, of each kind that the picture has.
 fn put_boxes<K: Sink>(text: &mut TextBuffer, sink: &mut K, kinds: Kinds, top: u64)
     requires { top < 200000 }
     ensures { Adds K.held K.faults sink.old sink.new text.old text.new (definition.legend_boxes kinds top) }
 {
     put_messages(text, sink, kinds.messages, top);
     put_all_garbled(text, sink, kinds.garbled, top);
-    put_tint(text, sink, kinds.tints, top);
+    put_overlap_band(text, sink, kinds.overlap_bands, top);
 }
 
 /// The legend of a picture that has these kinds of marks, with this upper edge.

@@ -117,7 +117,8 @@ fn put_share_to<K: Sink>(
 )
     requires scale { IsScale scale.now }
     requires carrier { IsCarrierOf carrier.now list.now }
-    ensures { Adds K.held K.faults sink.old sink.new text.old text.new (definition.load_words scale.now (definition.bus_bits scale.now list.now)) }
+    ensures { Adds K.held K.faults sink.old sink.new text.old text.new
+        (definition.load_words scale.now (definition.bus_bits scale.now list.now)) }
 {
     let bits = bus_bits(scale, list, carrier);
     put_load_words(text, sink, scale, bits);

@@ -2,7 +2,6 @@
 ghost use Rattle.std.specs.Prelude.{◌≡◌, ◌+◌, ◌*◌, ◌<◌, ◌≤◌, ◌^◌};
 ghost use Rattle.bus_outer.specs.Texts.{Adds};
 ghost use Rattle.bus_shapes.specs.Scales.{IsScale};
-ghost use Rattle.bus_audit.specs.Breaches as breaches;
 ghost use Rattle.bus_table.specs.declared.mode.Mode.TheVariants.{Periodic};
 ghost use Rattle.bus_picture.specs.Kinds as kinds;
 ghost use Rattle.bus_picture.specs.Offsets as definition;
@@ -11,20 +10,6 @@ use crate::measures::{OFFSET_HEIGHT, OFFSET_WIDTH, TICK_BELOW};
 use bus_outer::{Sink, TextBuffer};
 use bus_shapes::{Area, Class, Scale, put_box};
 use bus_table::Mode;
-use bus_trace::Hold;
-
-/// How many messages a terminal held.
-pub(crate) fn held(holds: &[Hold], terminal: u8) -> u32
-    ensures { result ≡ breaches.held holds.now terminal }
-{
-    for hold in holds {
-        let hold = *hold;
-        if hold.terminal == terminal {
-            return hold.count;
-        }
-    }
-    0
-}
 
 /// How many starts of a sender should lie before a moment.
 fn rounds_before(ti: u64, at: u64, t: u64) -> u64

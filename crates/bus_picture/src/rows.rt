@@ -7,33 +7,30 @@ ghost use Rattle.bus_picture.specs.Rows.{rows_text};
 ghost use Rattle.bus_picture.specs.TimeLines as definition;
 
 use crate::boxes::put_row;
+use crate::canvas::Canvas;
 use crate::lanes::lane_top;
 use crate::measures::PLOT_TOP;
+use crate::receivers::Receivers;
 use crate::row::Row;
-use crate::takers::Takers;
+use crate::subject::Subject;
 use bus_dump::Lane;
 use bus_outer::{Sink, TextBuffer};
 use bus_shapes::{Scale, Sent};
-use bus_strings::Transmission;
-use bus_table::Table;
-use bus_trace::Trace;
 
 /// The two rows of one place: what isn't garbled, and over it what is.
 fn put_rows_at<K: Sink>(
     text: &mut TextBuffer,
     sink: &mut K,
-    scale: &Scale,
-    takers: &Takers<'_>,
-    list: &[Transmission],
+    canvas: &Canvas<'_>,
     sents: &[Sent],
     terminal: Option<u8>,
     top: u64,
 )
-    requires scale { IsScale scale.now }
-    requires all { sents.now ≡ sents_of list.now }
+    requires scale { IsScale canvas.now.scale }
+    requires all { sents.now ≡ sents_of canvas.now.list.now }
     requires low { top < 2 ^ 40 }
     ensures { Adds K.held K.faults sink.old sink.new text.old text.new
-        (rows_text scale.now takers.now list.now (definition.rows_at terminal top)) }
+        (rows_text canvas.now.scale canvas.now.receivers.now canvas.now.list.now (definition.rows_at terminal top)) }
 {
     let plain = Row {
         terminal,
@@ -45,58 +42,45 @@ fn put_rows_at<K: Sink>(
         garbled: true,
         top,
     };
-    put_row(text, sink, scale, takers, &plain, list, sents);
-    put_row(text, sink, scale, takers, &hurt, list, sents);
+    put_row(text, sink, canvas, &plain, sents);
+    put_row(text, sink, canvas, &hurt, sents);
 }
 
 /// The rows of lane `k`.
 fn put_lane<K: Sink>(
     text: &mut TextBuffer,
     sink: &mut K,
-    scale: &Scale,
-    takers: &Takers<'_>,
-    list: &[Transmission],
+    canvas: &Canvas<'_>,
     sents: &[Sent],
     k: usize,
     lane: Lane,
 )
-    requires scale { IsScale scale.now }
-    requires all { sents.now ≡ sents_of list.now }
+    requires scale { IsScale canvas.now.scale }
+    requires all { sents.now ≡ sents_of canvas.now.list.now }
     requires few { k ≤ 256 }
     ensures { Adds K.held K.faults sink.old sink.new text.old text.new
-        (rows_text scale.now takers.now list.now (definition.lane_rows k lane)) }
+        (rows_text canvas.now.scale canvas.now.receivers.now canvas.now.list.now (definition.lane_rows k lane)) }
 {
     let top = lane_top(k);
-    put_rows_at(
-        text,
-        sink,
-        scale,
-        takers,
-        list,
-        sents,
-        Some(lane.terminal),
-        top,
-    );
+    put_rows_at(text, sink, canvas, sents, Some(lane.terminal), top);
 }
 
 /// The rows of each lane. It goes over what is told of the list twice for each.
 fn put_lanes<K: Sink>(
     text: &mut TextBuffer,
     sink: &mut K,
-    scale: &Scale,
-    takers: &Takers<'_>,
-    list: &[Transmission],
+    canvas: &Canvas<'_>,
     sents: &[Sent],
     lanes: &[Lane],
 )
-    requires scale { IsScale scale.now }
-    requires all { sents.now ≡ sents_of list.now }
+    requires scale { IsScale canvas.now.scale }
+    requires all { sents.now ≡ sents_of canvas.now.list.now }
     requires few { length lanes.now ≤ 256 }
     ensures { Adds K.held K.faults sink.old sink.new text.old text.new
-        (rows_text scale.now takers.now list.now (definition.rows_of_lanes lanes.now)) }
+        (rows_text canvas.now.scale canvas.now.receivers.now canvas.now.list.now (definition.rows_of_lanes lanes.now)) }
 {
     for k in 0..lanes.len() {
-        put_lane(text, sink, scale, takers, list, sents, k, lanes[k]);
+        put_lane(text, sink, canvas, sents, k, lanes[k]);
     }
 }
 
@@ -106,18 +90,21 @@ pub(crate) fn put_rows<K: Sink>(
     sink: &mut K,
     scale: &Scale,
     lanes: &[Lane],
-    table: &Table,
-    trace: &Trace,
-    sents: &[Sent],
+    subject: &Subject<'_>,
 )
     requires scale { IsScale scale.now }
     requires few { length lanes.now ≤ 256 }
-    requires all { sents.now ≡ sents_of trace.now.list }
+    requires all { subject.now.sents.now ≡ sents_of subject.now.trace.now.list }
     ensures { Adds K.held K.faults sink.old sink.new text.old text.new
-        (rows_text scale.now table.now trace.now.list (definition.rows_of lanes.now)) }
+        (rows_text scale.now subject.now.table.now subject.now.trace.now.list (definition.rows_of lanes.now)) }
 {
-    let list = trace.list();
-    let takers = Takers::new(table);
-    put_rows_at(text, sink, scale, &takers, list, sents, None, PLOT_TOP);
-    put_lanes(text, sink, scale, &takers, list, sents, lanes);
+    let list = subject.trace.list();
+    let receivers = Receivers::new(subject.table);
+    let canvas = Canvas {
+        scale: *scale,
+        receivers: &receivers,
+        list,
+    };
+    put_rows_at(text, sink, &canvas, subject.sents, None, PLOT_TOP);
+    put_lanes(text, sink, &canvas, subject.sents, lanes);
 }

@@ -7,10 +7,11 @@ ghost use Rattle.bus_shapes.specs.Sayings.{counted};
 ghost use Rattle.bus_shapes.specs.Scales.{IsScale};
 ghost use Rattle.bus_picture.specs.Strings as definition;
 
+use crate::canvas::Canvas;
 use crate::measures::{LONG_ROOM, NAME_ROOM, STRING_LINE};
 use crate::names::put_name;
 use crate::places::{meets, string_area};
-use crate::takers::Takers;
+use crate::receivers::Receivers;
 use crate::words::{has_room, put_each_word};
 use bus_outer::{Sink, TextBuffer};
 use bus_shapes::{
@@ -74,17 +75,17 @@ fn put_string_words<K: Sink>(
 fn put_titled_words<K: Sink>(
     text: &mut TextBuffer,
     sink: &mut K,
-    takers: &Takers<'_>,
+    receivers: &Receivers<'_>,
     sent: &Sent,
     from: u64,
     to: u64,
     string: &Wordstring,
 )
     ensures { Adds K.held K.faults sink.old sink.new text.old text.new
-        (definition.titled_words takers.now sent.now from to string.now) }
+        (definition.titled_words receivers.now sent.now from to string.now) }
 {
     put_string_words(text, sink, from, to, string);
-    takers.put_words(text, sink, sent, string);
+    receivers.put_words(text, sink, sent, string);
 }
 
 /// How a wordstring looks.
@@ -160,49 +161,56 @@ fn put_inside<K: Sink>(
 fn put_drawn<K: Sink>(
     text: &mut TextBuffer,
     sink: &mut K,
-    scale: &Scale,
-    takers: &Takers<'_>,
+    canvas: &Canvas<'_>,
     top: u64,
     sent: &Sent,
     from: u64,
     to: u64,
     string: &Wordstring,
 )
-    requires scale { IsScale scale.now }
+    requires scale { IsScale canvas.now.scale }
     requires order { from ≤ to }
     requires low { from < 2 ^ 42 }
     requires top { top < 2 ^ 40 }
     ensures { Adds K.held K.faults sink.old sink.new text.old text.new
-        (definition.drawn_text scale.now takers.now top sent.now from to string.now) }
+        (definition.drawn_text canvas.now.scale canvas.now.receivers.now top sent.now from to string.now) }
 {
-    let area = string_area(scale, top, from, to);
+    let area = string_area(&canvas.scale, top, from, to);
     begin_titled(text, sink, string_class(sent.garbled), area);
-    put_titled_words(text, sink, takers, sent, from, to, string);
+    put_titled_words(text, sink, canvas.receivers, sent, from, to, string);
     end_titled(text, sink);
-    put_inside(text, sink, scale, top, sent.garbled, from, area, string);
+    put_inside(
+        text,
+        sink,
+        &canvas.scale,
+        top,
+        sent.garbled,
+        from,
+        area,
+        string,
+    );
 }
 
 /// The same, where it meets the moments of the scale.
 fn put_string<K: Sink>(
     text: &mut TextBuffer,
     sink: &mut K,
-    scale: &Scale,
-    takers: &Takers<'_>,
+    canvas: &Canvas<'_>,
     top: u64,
     sent: &Sent,
     from: u64,
     to: u64,
     string: &Wordstring,
 )
-    requires scale { IsScale scale.now }
+    requires scale { IsScale canvas.now.scale }
     requires order { from ≤ to }
     requires low { from < 2 ^ 42 }
     requires top { top < 2 ^ 40 }
     ensures { Adds K.held K.faults sink.old sink.new text.old text.new
-        (definition.string_text scale.now takers.now top sent.now from to string.now) }
+        (definition.string_text canvas.now.scale canvas.now.receivers.now top sent.now from to string.now) }
 {
-    if meets(scale, from, to) {
-        put_drawn(text, sink, scale, takers, top, sent, from, to, string);
+    if meets(&canvas.scale, from, to) {
+        put_drawn(text, sink, canvas, top, sent, from, to, string);
     }
 }
 
@@ -231,41 +239,39 @@ pub(crate) fn string_of(x: &Transmission, k: u32) -> &Wordstring
 fn put_pulse<K: Sink>(
     text: &mut TextBuffer,
     sink: &mut K,
-    scale: &Scale,
-    takers: &Takers<'_>,
+    canvas: &Canvas<'_>,
     top: u64,
     sent: &Sent,
     x: &Transmission,
     k: u32,
 )
-    requires scale { IsScale scale.now }
+    requires scale { IsScale canvas.now.scale }
     requires top { top < 2 ^ 40 }
     requires within { k < length x.now.message }
     ensures { Adds K.held K.faults sink.old sink.new text.old text.new
-        (option_map_or (definition.pulse_text scale.now takers.now top sent.now x.now k) (slice_get x.now.message k) []) }
+        (option_map_or (definition.pulse_text canvas.now.scale canvas.now.receivers.now top sent.now x.now k)
+        (slice_get x.now.message k) []) }
 {
     let moments = pulse_moments(x, k);
     let string = string_of(x, k);
-    put_string(
-        text, sink, scale, takers, top, sent, moments.0, moments.1, string,
-    );
+    put_string(text, sink, canvas, top, sent, moments.0, moments.1, string);
 }
 
 /// The wordstrings of a transmission, with what is told of it, in a row with this upper edge.
 pub(crate) fn put_strings<K: Sink>(
     text: &mut TextBuffer,
     sink: &mut K,
-    scale: &Scale,
-    takers: &Takers<'_>,
+    canvas: &Canvas<'_>,
     top: u64,
     sent: &Sent,
     x: &Transmission,
 )
-    requires scale { IsScale scale.now }
+    requires scale { IsScale canvas.now.scale }
     requires top { top < 2 ^ 40 }
-    ensures { Adds K.held K.faults sink.old sink.new text.old text.new (definition.strings_text scale.now takers.now top sent.now x.now) }
+    ensures { Adds K.held K.faults sink.old sink.new text.old text.new
+        (definition.strings_text canvas.now.scale canvas.now.receivers.now top sent.now x.now) }
 {
     for k in 0..pulse_count(&x.message) {
-        put_pulse(text, sink, scale, takers, top, sent, x, k);
+        put_pulse(text, sink, canvas, top, sent, x, k);
     }
 }

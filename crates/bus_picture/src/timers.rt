@@ -7,16 +7,16 @@ ghost use Rattle.bus_picture.specs.declared.measures.TheConstants.{GAP_LINE as g
 ghost use Rattle.bus_picture.specs.Timers as definition;
 ghost use Rattle.bus_picture.specs.TimeLines as whole;
 
+use crate::lane_timings::LaneTimings;
 use crate::lanes::lane_top;
 use crate::lines::{has_words, is_drawn, line_area};
 use crate::measures::{GAP_BELOW, GAP_LINE, GAP_ROOM, NEAR_ROOM, PLOT_TOP};
-use crate::offsets::{held, put_offsets};
+use crate::offsets::put_offsets;
 use crate::starts::put_starts;
-use crate::track::Track;
 use bus_dump::Lane;
 use bus_medium::quiet;
 use bus_outer::{Sink, TextBuffer};
-use bus_shapes::{Area, Class, Scale, Sent, Sents, begin_words, end_words, put_box};
+use bus_shapes::{Area, Class, Scale, Sent, Sents, begin_words, end_words, held, put_box};
 use bus_strings::Transmission;
 use bus_strings::laws::neighbours_tell;
 use bus_table::{Sender, Table, sender_of};
@@ -129,12 +129,18 @@ fn put_bus_timer<K: Sink>(
 }
 
 /// What is the same all along lane `k` of a trace with this horizon, of a sender with this terminal and this terminal gap.
-pub(crate) fn track_of(table: &Table, horizon: u64, k: usize, terminal: u8, tg: u32) -> Track
+pub(crate) fn timings_of(
+    table: &Table,
+    horizon: u64,
+    k: usize,
+    terminal: u8,
+    tg: u32,
+) -> LaneTimings
     requires { k ≤ 256 }
-    ensures value { result ≡ definition.track_of table.now horizon k terminal tg }
+    ensures value { result ≡ definition.timings_of table.now horizon k terminal tg }
     ensures low { result.top < 100000 }
 {
-    Track {
+    LaneTimings {
         k,
         top: lane_top(k),
         terminal,
@@ -165,9 +171,9 @@ fn put_lane_sender<K: Sink>(
 {
     let tg = sender.tg();
     let horizon = trace.horizon();
-    let track = track_of(table, horizon, k, lane.terminal, tg);
+    let timings = timings_of(table, horizon, k, lane.terminal, tg);
     let list = trace.list();
-    put_starts(text, sink, scale, list, track);
+    put_starts(text, sink, scale, list, timings);
     let mode = table.mode();
     let top = lane_top(k);
     let ti = table.ti();

@@ -19,10 +19,11 @@ use crate::measures::{
     BUS_LINE, FOOT_HEIGHT, LEFT_OUT_LINE, LEGEND_BELOW, LOWER_WORDS, NAMES_RIGHT, PLOT_LEFT,
     PLOT_TOP, PLOT_WIDTH, TICK_HEIGHT, UPPER_TICKS, UPPER_WORDS,
 };
+use crate::overlap_bands::put_overlap_bands;
 use crate::pace::put_paces;
 use crate::rows::put_rows;
+use crate::subject::Subject;
 use crate::timers::put_timers;
-use crate::tints::put_tints;
 use arrayvec::ArrayVec;
 use bus_dump::{Lane, MOST_LANES, lanes_of};
 use bus_load::Stretch;
@@ -107,19 +108,15 @@ fn put_plot<K: Sink>(
     scale: &Scale,
     bottom: u64,
     lanes: &[Lane],
-    told: &Told,
-    table: &Table,
-    trace: &Trace,
-    carrier: &[Stretch],
-    sents: &[Sent],
+    subject: &Subject<'_>,
 )
     requires scale { IsScale scale.now }
     requires few { length lanes.now ≤ 256 }
     requires bottom { bottom ≡ definition.lane_top (length lanes.now) }
-    requires carrier { IsCarrierOf carrier.now trace.now.list }
-    requires all { sents.now ≡ sents_of trace.now.list }
+    requires carrier { IsCarrierOf subject.now.carrier.now subject.now.trace.now.list }
+    requires all { subject.now.sents.now ≡ sents_of subject.now.trace.now.list }
     ensures { Adds K.held K.faults sink.old sink.new text.old text.new
-        (definition.plot_text scale.now bottom lanes.now told.now table.now trace.now) }
+        (definition.plot_text scale.now bottom lanes.now subject.now.told.now subject.now.table.now subject.now.trace.now) }
 {
     put_words(
         text,
@@ -129,18 +126,18 @@ fn put_plot<K: Sink>(
         PLOT_TOP + BUS_LINE,
         b"bus",
     );
-    let list = trace.list();
+    let list = subject.trace.list();
     put_paces(text, sink, scale, lanes, list);
-    put_loads(text, sink, scale, lanes, list, carrier);
-    put_fronts(text, sink, table, lanes);
+    put_loads(text, sink, scale, lanes, list, subject.carrier);
+    put_fronts(text, sink, subject.table, lanes);
     put_axes(text, sink, scale, bottom);
-    let horizon = trace.horizon();
+    let horizon = subject.trace.horizon();
     put_unobserved(text, sink, scale, bottom, horizon);
-    put_tints(text, sink, scale, bottom, trace);
-    put_rows(text, sink, scale, lanes, table, trace, sents);
-    put_timers(text, sink, scale, lanes, table, trace);
-    let ti = table.ti();
-    put_told(text, sink, scale, ti, lanes, told, list);
+    put_overlap_bands(text, sink, scale, bottom, subject.trace);
+    put_rows(text, sink, scale, lanes, subject);
+    put_timers(text, sink, scale, lanes, subject.table, subject.trace);
+    let ti = subject.table.ti();
+    put_told(text, sink, scale, ti, lanes, subject.told, list);
 }
 
 /// How many lanes are left out.
@@ -179,37 +176,31 @@ fn put_picture<K: Sink>(
     scale: &Scale,
     lanes: &[Lane],
     left_out: usize,
-    verdict: &TableVerdict,
-    told: &Told,
-    table: &Table,
-    trace: &Trace,
-    carrier: &[Stretch],
-    sents: &[Sent],
+    subject: &Subject<'_>,
 )
     requires scale { IsScale scale.now }
     requires few { length lanes.now ≤ 256 }
-    requires carrier { IsCarrierOf carrier.now trace.now.list }
-    requires all { sents.now ≡ sents_of trace.now.list }
+    requires carrier { IsCarrierOf subject.now.carrier.now subject.now.trace.now.list }
+    requires all { subject.now.sents.now ≡ sents_of subject.now.trace.now.list }
     ensures { Adds K.held K.faults sink.old sink.new text.old text.new
-        (definition.picture_text scale.now lanes.now left_out verdict.now told.now table.now trace.now) }
+        (definition.picture_text scale.now lanes.now left_out subject.now.verdict.now subject.now.told.now subject.now.table.now
+        subject.now.trace.now) }
 {
     let bottom = lane_top(lanes.len());
-    let counts = counts(scale, trace);
-    let list = trace.list();
+    let counts = counts(scale, subject.trace);
+    let list = subject.trace.list();
     put_frame(
         text,
         sink,
         bottom + FOOT_HEIGHT,
-        verdict,
-        told,
-        table,
+        subject.verdict,
+        subject.told,
+        subject.table,
         list,
         &counts,
     );
-    put_plot(
-        text, sink, scale, bottom, lanes, told, table, trace, carrier, sents,
-    );
-    let kinds = kinds_of(scale, lanes, table, trace, &counts);
+    put_plot(text, sink, scale, bottom, lanes, subject);
+    let kinds = kinds_of(scale, lanes, subject.table, subject.trace, &counts);
     put_foot(text, sink, bottom, left_out, kinds);
     put_tail(text, sink);
 }
@@ -220,36 +211,20 @@ fn put_drawn<K: Sink>(
     sink: &mut K,
     scale: &Scale,
     all: ArrayVec<Lane, MOST_LANES>,
-    verdict: &TableVerdict,
-    told: &Told,
-    table: &Table,
-    trace: &Trace,
-    carrier: &[Stretch],
-    sents: &[Sent],
+    subject: &Subject<'_>,
 )
     requires scale { IsScale scale.now }
-    requires carrier { IsCarrierOf carrier.now trace.now.list }
-    requires all { sents.now ≡ sents_of trace.now.list }
+    requires carrier { IsCarrierOf subject.now.carrier.now subject.now.trace.now.list }
+    requires all { subject.now.sents.now ≡ sents_of subject.now.trace.now.list }
     ensures { Adds K.held K.faults sink.old sink.new text.old text.new
-        (definition.drawn_text scale.now all.items verdict.now told.now table.now trace.now) }
+        (definition.drawn_text scale.now all.items subject.now.verdict.now subject.now.told.now subject.now.table.now
+        subject.now.trace.now) }
 {
     let count = all.len();
-    let list = trace.list();
-    let lanes = drawn_lanes(scale, told, list, all);
+    let list = subject.trace.list();
+    let lanes = drawn_lanes(scale, subject.told, list, all);
     let left_out = count.saturating_sub(lanes.len());
-    put_picture(
-        text,
-        sink,
-        scale,
-        lanes.as_slice(),
-        left_out,
-        verdict,
-        told,
-        table,
-        trace,
-        carrier,
-        sents,
-    );
+    put_picture(text, sink, scale, lanes.as_slice(), left_out, subject);
 }
 
 /// Writes the time line of a trace in a window, with the words of the verdict on the table and what is told of the trace, with the load by
@@ -276,8 +251,14 @@ pub fn write_time_line<K: Sink>(
     let scale = scale_of(window);
     let lanes = lanes_of(table, trace.list());
     let mut text = TextBuffer::new();
-    put_drawn(
-        &mut text, sink, &scale, lanes, verdict, told, table, trace, carrier, sents,
-    );
+    let subject = Subject {
+        verdict,
+        told,
+        table,
+        trace,
+        carrier,
+        sents,
+    };
+    put_drawn(&mut text, sink, &scale, lanes, &subject);
     text.finish(sink)
 }

@@ -9,7 +9,7 @@ ghost use Rattle.bus_shapes.specs.Sayings.{counted, ending, summary_words, table
 ghost use Rattle.bus_shapes.specs.Shapes.{words_text};
 
 use crate::area::Area;
-use crate::class::{Class, put_rule, put_rules};
+use crate::class::Class;
 use crate::counts::Counts;
 use crate::heading::{put_told, put_told_heading, put_verdict_heading, verdict_class};
 use crate::measures::{
@@ -18,128 +18,12 @@ use crate::measures::{
 use crate::number::put_parted;
 use crate::on_cable::put_as_sent;
 use crate::shapes::{begin_words, end_words, put_box};
+use crate::style::{put_style, put_told_style};
 use crate::told::Told;
 use bus_outer::{Sink, TextBuffer};
 use bus_regime::{TableVerdict, put_verdict};
 use bus_strings::Transmission;
 use bus_table::{Mode, Table, put_mode};
-
-/// The style of all classes, in a light and in a dark scheme, and the hatching of what is garbled.
-fn put_style<K: Sink>(text: &mut TextBuffer, sink: &mut K)
-    ensures { Adds K.held K.faults sink.old sink.new text.old text.new definition.style_text }
-{
-    text.put(sink, b"<style>\n");
-    put_font(text, sink);
-    put_rules(text, sink);
-    put_dark(text, sink);
-    text.put(sink, b"</style>\n");
-    put_hatch(text, sink);
-}
-
-/// The style of words.
-fn put_font<K: Sink>(text: &mut TextBuffer, sink: &mut K)
-    ensures { Adds K.held K.faults sink.old sink.new text.old text.new definition.font_text }
-{
-    text.put(
-        sink,
-        b"text{font-family:DejaVu Sans Mono,Menlo,Consolas,monospace;font-size:110px;fill:#222;pointer-events:none}\n",
-    );
-}
-
-/// The colours of a dark scheme.
-fn put_dark<K: Sink>(text: &mut TextBuffer, sink: &mut K)
-    ensures { Adds K.held K.faults sink.old sink.new text.old text.new definition.dark_text }
-{
-    text.put(sink, b"@media(prefers-color-scheme:dark){\n");
-    text.put(
-        sink,
-        b"text,.note{fill:#e6e8eb}.small,.detail{fill:#aab2bd}.gap-words{fill:#e8b75a}.interval-words{fill:#5fd6b0}\n",
-    );
-    text.put(
-        sink,
-        b".refusal{fill:#ff9a4d}.digits{fill:#000}.noise-digits,.breach-words{fill:#fff;stroke:#14171b}\n",
-    );
-    text.put(
-        sink,
-        b".background,.edge{fill:#14171b}.band{fill:#1b1f25}.grid{fill:#333a43}.tick,.span{fill:#9aa2ad}\n",
-    );
-    text.put(
-        sink,
-        b".message{fill:#17344a;stroke:#56b4e9}.wordstring{fill:#6fb7e6}.other{fill:#3f86b4}.label{fill:#b9def7}\n",
-    );
-    text.put(
-        sink,
-        b".garbled{stroke:#ff9a4d}#hatch rect{fill:#5a2b00}#hatch rect+rect{fill:#e8741e}\n",
-    );
-    text.put(
-        sink,
-        b"#clash rect{fill:#5a2b00}#clash rect+rect{fill:#ff9a4d}#unseen rect{fill:#23282f}#unseen rect+rect{fill:#596270}\n",
-    );
-    text.put(
-        sink,
-        b"#dashes rect{fill:#5c4410}#dashes rect+rect{fill:#e0a030}.interval{fill:#2fc79a}.mark,.breach{fill:#fff}}\n",
-    );
-}
-
-/// The patterns that are told apart in grey.
-fn put_hatch<K: Sink>(text: &mut TextBuffer, sink: &mut K)
-    ensures { Adds K.held K.faults sink.old sink.new text.old text.new definition.hatch_text }
-{
-    text.put(
-        sink,
-        b"<defs><pattern id=\"hatch\" width=\"80\" height=\"80\" patternUnits=\"userSpaceOnUse\" patternTransform=\"rotate(45)\">",
-    );
-    text.put(
-        sink,
-        b"<rect width=\"80\" height=\"80\" fill=\"#ffd2a8\"/><rect width=\"24\" height=\"80\" fill=\"#d55e00\"/></pattern>\n",
-    );
-    text.put(
-        sink,
-        b"<pattern id=\"clash\" width=\"40\" height=\"40\" patternUnits=\"userSpaceOnUse\">",
-    );
-    text.put(
-        sink,
-        b"<rect width=\"40\" height=\"40\" fill=\"#ffd2a8\"/><rect width=\"40\" height=\"24\" fill=\"#a63a00\"/></pattern>\n",
-    );
-    text.put(
-        sink,
-        b"<pattern id=\"unseen\" width=\"70\" height=\"70\" patternUnits=\"userSpaceOnUse\" patternTransform=\"rotate(-45)\">",
-    );
-    text.put(
-        sink,
-        b"<rect width=\"70\" height=\"70\" fill=\"#eceef1\"/><rect width=\"16\" height=\"70\" fill=\"#a4abb5\"/></pattern>\n",
-    );
-    text.put(
-        sink,
-        b"<pattern id=\"dashes\" width=\"60\" height=\"60\" patternUnits=\"userSpaceOnUse\">",
-    );
-    text.put(
-        sink,
-        b"<rect width=\"60\" height=\"60\" fill=\"#e6cd98\"/><rect width=\"36\" height=\"60\" fill=\"#8a5f00\"/></pattern></defs>\n",
-    );
-}
-
-/// The style of the marks of findings.
-fn put_fault_style<K: Sink>(text: &mut TextBuffer, sink: &mut K)
-    ensures { Adds K.held K.faults sink.old sink.new text.old text.new definition.fault_style }
-{
-    text.put(sink, b"<style>\n");
-    put_rule(text, sink, Class::Fault);
-    text.put(
-        sink,
-        b"@media(prefers-color-scheme:dark){.fault{fill:#fff}}\n</style>\n",
-    );
-}
-
-/// That style, where findings are told.
-fn put_told_style<K: Sink>(text: &mut TextBuffer, sink: &mut K, told: &Told)
-    ensures { Adds K.held K.faults sink.old sink.new text.old text.new (definition.told_style told.now) }
-{
-    match told {
-        Told::Audit(_) | Told::OnCable { .. } => text.put(sink, b""),
-        Told::Findings { .. } => put_fault_style(text, sink),
-    }
-}
 
 /// The size of a picture of this height.
 fn put_size<K: Sink>(text: &mut TextBuffer, sink: &mut K, height: u64)

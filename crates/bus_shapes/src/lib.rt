@@ -5,6 +5,7 @@
 //! - [`put_frame`] and [`put_tail`] put what stands around a picture, [`put_axis`] an axis. [`Told`] is what is told of the trace there.
 //! - [`Sents`] goes over a list and tells of each transmission what a picture says of it, a [`Sent`]; [`all_sents`] has them all, and
 //!   [`put_sent`] puts the words of one.
+//! - [`held`] tells how many messages a terminal held.
 //! - [`laws`] has what follows of the definitions of places, marks and what is told of a list, [`measures`] where words stand.
 //!
 //! All numbers are whole; a unit is a tenth of a pixel. The definitions are in `specs/`: `Classes`, `Shapes` (boxes and words), `Scales`
@@ -18,6 +19,7 @@ mod class;
 mod counts;
 mod frame;
 mod heading;
+mod holds;
 mod later;
 pub mod laws;
 pub mod measures;
@@ -27,6 +29,7 @@ mod scale;
 mod sent;
 mod sents;
 mod shapes;
+mod style;
 mod told;
 
 pub use area::Area;
@@ -34,6 +37,7 @@ pub use axis::{Axis, Unit, put_axis};
 pub use class::{Class, digits_class};
 pub use counts::Counts;
 pub use frame::{put_counted, put_frame, put_tail};
+pub use holds::held;
 pub use number::{put_load_share, put_parted, put_parted_microseconds};
 pub use scale::Scale;
 pub use sent::{Sent, put_garbled, put_sent};

@@ -37,7 +37,7 @@ const LONG: &str = "<rect class=\"mark\" x=\"4587\" y=\"1450\" width=\"10\" heig
 <text class=\"detail\" x=\"9540\" y=\"1795\">8.7 %</text>
 <rect class=\"breach\" x=\"8200\" y=\"1660\" width=\"20\" height=\"40\"/>
 <rect class=\"breach\" x=\"8200\" y=\"1820\" width=\"20\" height=\"40\"/>
-<text class=\"note\" x=\"8240\" y=\"1795\">breach</text>
+<text class=\"note\" x=\"8230\" y=\"1795\">breach</text>
 </svg>
 ";
 

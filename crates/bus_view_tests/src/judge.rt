@@ -25,12 +25,12 @@ const MARKS: &str = "<rect class=\"fault\" x=\"7960\" y=\"1690\" width=\"40\" he
 <title>FAULT 1100 2 Early TG 10</title></rect>
 <rect class=\"fault\" x=\"7960\" y=\"1800\" width=\"40\" height=\"30\">\
 <title>FAULT 1100 2 Early TG 10</title></rect>
-<text class=\"note\" x=\"8240\" y=\"1795\">fault</text>
+<text class=\"note\" x=\"8230\" y=\"1795\">fault</text>
 <rect class=\"fault\" x=\"7500\" y=\"1830\" width=\"40\" height=\"30\">\
 <title>FAULT 2300 1 Late SG 140</title></rect>
 <rect class=\"fault\" x=\"7500\" y=\"1940\" width=\"40\" height=\"30\">\
 <title>FAULT 2300 1 Late SG 140</title></rect>
-<text class=\"note\" x=\"8240\" y=\"1935\">fault</text>
+<text class=\"note\" x=\"8230\" y=\"1935\">fault</text>
 </svg>
 ";
 

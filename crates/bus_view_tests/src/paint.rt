@@ -55,7 +55,7 @@ const ROWS: &str = "<rect class=\"mark\" x=\"7275\" y=\"1450\" width=\"10\" heig
 <text class=\"detail\" x=\"9540\" y=\"2205\">6.4 %</text>
 <rect class=\"breach\" x=\"1670\" y=\"1660\" width=\"20\" height=\"40\"/>
 <rect class=\"breach\" x=\"1670\" y=\"2000\" width=\"20\" height=\"40\"/>
-<text class=\"note\" x=\"8240\" y=\"1885\">breach</text>
+<text class=\"note\" x=\"8230\" y=\"1885\">breach</text>
 </svg>
 ";
 

@@ -6,7 +6,7 @@ use Rattle.std.specs.Option.{option_and_then}
 use Rattle.bus_strings.specs.Limits.{word_bits, most_terminal}
 use Rattle.bus_strings.specs.Messages.{Wordstring, Message, Entry, bits}
 use Rattle.bus_strings.specs.Transmissions.{IsTransmission, IsAscending, end_of, garbled, marks}
-use Rattle.bus_dump.specs.declared.glance.Glance.{Glance}
+use Rattle.bus_dump.specs.declared.shown_stretch.ShownStretch.{ShownStretch}
 use Rattle.bus_dump.specs.declared.live.Live.{Live}
 use Rattle.bus_dump.specs.declared.walk.Walk.{Walk}
 use Rattle.bus_dump.specs.Doubled.{doubled}
@@ -32,21 +32,21 @@ one_more _ (Some word) = Unknown
 abbrev pub with_word : Value → Seen → Value
 with_word value seen = one_more value (shown_word seen)
 
--- ---- glances
+-- ---- what is shown for a stretch
 -- How long a word stays as it is from its bit time `at` on.
 abbrev pub left_of : ℕ → ℕ
 left_of at = if nat_lt at sync_bits then sync_bits - at else word_bits - at
 
 -- What is seen at a bit time of a wordstring.
-abbrev pub glance_in : Wordstring → ℕ → Glance
-glance_in string at = record { shown = Some (shown_of (record { string = string; at = at })); left = left_of (at % word_bits) }
+abbrev pub stretch_in : Wordstring → ℕ → ShownStretch
+stretch_in string at = record { shown = Some (shown_of (record { string = string; at = at })); left = left_of (at % word_bits) }
 
 -- What is shown at a bit time of a message, and for how many bit times, at least 1 and not past its end.
-pub record IsGlance (message : Message) (at : ℕ) (glance : Glance) : Type 0 where
-  pub some : 1 ≤ glance.left
-  pub short : glance.left ≤ word_bits
-  pub within : at + glance.left ≤ bits message
-  pub steady : (more : ℕ) → more < glance.left → shown_at message (at + more) ≡ glance.shown
+pub record IsShownStretch (message : Message) (at : ℕ) (stretch : ShownStretch) : Type 0 where
+  pub some : 1 ≤ stretch.left
+  pub short : stretch.left ≤ word_bits
+  pub within : at + stretch.left ≤ bits message
+  pub steady : (more : ℕ) → more < stretch.left → shown_at message (at + more) ≡ stretch.shown
 
 -- ---- live transmissions
 -- What is kept of entry k, given the entry.

@@ -10,7 +10,7 @@ use Rattle.bus_shapes.specs.Sending.{sents, sents_from}
 use Rattle.bus_picture.specs.Gaps.{Gap, Heard, gap_from, gap_place, heard_more, heard_of, last_moment, settled}
 use Rattle.bus_picture.specs.Kinds.{is_gap, is_interval}
 use Rattle.bus_picture.specs.declared.measures.TheConstants.{GAP_LINE as gap_line}
-use Rattle.bus_picture.specs.Timers.{Track, gap_size, gap_words, interval_behind, size_room, terminal_gap, timers_at, words_above}
+use Rattle.bus_picture.specs.Timers.{LaneTimings, gap_size, gap_words, interval_behind, size_room, terminal_gap, timers_at, words_above}
 pub use Rattle.bus_picture.specs.declared.heard.Hearing.{Hearing}
 
 -- ---- what the terminal has heard
@@ -41,44 +41,44 @@ abbrev pub words_over : Area → ℕ → ℕ → Gap → List ℕ
 words_over area top tg gap = words_above (size_room tg gap) area (top + gap_line) (codes "TG " ++ gap_size tg gap)
 
 -- The terminal gap of a sender that has heard this, up to a moment.
-abbrev pub heard_gap : Track → Heard → ℕ → Gap
-heard_gap track heard moment = gap_from track.quiet track.tg (gap_place track.sg heard) moment
+abbrev pub heard_gap : LaneTimings → Heard → ℕ → Gap
+heard_gap timings heard moment = gap_from timings.quiet timings.tg (gap_place timings.sg heard) moment
 
 -- Its line, where it ends with the first that begins at a moment.
-abbrev pub line_text : Scale → Track → Bool → Gap → List ℕ
-line_text scale track first gap = if first then terminal_gap scale track.top gap else []
+abbrev pub line_text : Scale → LaneTimings → Bool → Gap → List ℕ
+line_text scale timings first gap = if first then terminal_gap scale timings.top gap else []
 
 -- What ends at a start: the transmit interval behind the last one, and the words of the terminal gap.
-abbrev pub start_text : Scale → Track → Option ℕ → Gap → ℕ → List ℕ
-start_text scale track last gap moment =
-    interval_behind scale track last (Some moment) ++ gap_words scale track.top track.tg gap
+abbrev pub start_text : Scale → LaneTimings → Option ℕ → Gap → ℕ → List ℕ
+start_text scale timings last gap moment =
+    interval_behind scale timings last (Some moment) ++ gap_words scale timings.top timings.tg gap
 
 -- The same at a transmission, where that is a start of the sender.
-abbrev pub own_text : Scale → Track → Option ℕ → Gap → Entry → List ℕ
-own_text scale track last gap x = if x.terminal == track.terminal then start_text scale track last gap x.moment else []
+abbrev pub own_text : Scale → LaneTimings → Option ℕ → Gap → Entry → List ℕ
+own_text scale timings last gap x = if x.terminal == timings.terminal then start_text scale timings last gap x.moment else []
 
 -- All that is drawn at a transmission.
-abbrev pub next_text : Scale → Track → Option ℕ → Bool → Heard → Entry → List ℕ
-next_text scale track last first heard x =
-    line_text scale track first (heard_gap track heard x.moment) ++ own_text scale track last (heard_gap track heard x.moment) x
+abbrev pub next_text : Scale → LaneTimings → Option ℕ → Bool → Heard → Entry → List ℕ
+next_text scale timings last first heard x =
+    line_text scale timings first (heard_gap timings heard x.moment) ++ own_text scale timings last (heard_gap timings heard x.moment) x
 
 -- And behind all.
-abbrev pub last_text : Scale → Track → Option ℕ → Heard → List ℕ
-last_text scale track last heard =
-    terminal_gap scale track.top (heard_gap track heard track.horizon) ++ interval_behind scale track last None
+abbrev pub last_text : Scale → LaneTimings → Option ℕ → Heard → List ℕ
+last_text scale timings last heard =
+    terminal_gap scale timings.top (heard_gap timings heard timings.horizon) ++ interval_behind scale timings last None
 
 -- What is drawn at the first k transmissions of a list.
-abbrev pub drawn_first : Scale → List Entry → Track → ℕ → List ℕ
-drawn_first scale list track k = flat_map (timers_at scale list track) (sents_from list 0 (take k list))
+abbrev pub drawn_first : Scale → List Entry → LaneTimings → ℕ → List ℕ
+drawn_first scale list timings k = flat_map (timers_at scale list timings) (sents_from list 0 (take k list))
 
 -- ---- what is drawn
 -- Whether the line of the terminal gap is drawn before the transmission that was heard last.
-abbrev pub is_gap_before : Scale → Track → Hearing → Bool
-is_gap_before scale track hearing = hearing.first && is_gap scale (heard_gap track hearing.before hearing.moment)
+abbrev pub is_gap_before : Scale → LaneTimings → Hearing → Bool
+is_gap_before scale timings hearing = hearing.first && is_gap scale (heard_gap timings hearing.before hearing.moment)
 
 -- Whether that of the transmit interval up to a transmission is.
-abbrev pub is_interval_before : Scale → Track → Option ℕ → Entry → Bool
-is_interval_before scale track last x = x.terminal == track.terminal && is_interval scale track last (Some x.moment)
+abbrev pub is_interval_before : Scale → LaneTimings → Option ℕ → Entry → Bool
+is_interval_before scale timings last x = x.terminal == timings.terminal && is_interval scale timings last (Some x.moment)
 
 -- Whether something is of the first k transmissions of a list, given whether it is of each.
 abbrev pub any_first : (Sent → Bool) → List Entry → ℕ → Bool

@@ -8,6 +8,6 @@ use Rattle.bus_cycles.proofs.laws.loads_are_shares.Goals as goal
 
 pub returns : goal.returns
 returns c cycle list row =
-    let from : ℕ = row.begin - cycle.lift in
-    let many : ℕ = row.begin + whole_of cycle row - cycle.lift - from in
+    let from : ℕ = row.begin - cycle.origin_offset in
+    let many : ℕ = row.begin + whole_of cycle row - cycle.origin_offset - from in
     omega (arith, count_by-le-length (carrier list) (range_with_len from many), length-range_with_len from many)

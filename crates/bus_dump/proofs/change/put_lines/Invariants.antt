@@ -2,7 +2,7 @@ use Rattle.std.proofs.Common.{take}
 use Rattle.std.specs.List.{flat_map}
 use Rattle.bus_outer.specs.Texts.{Adds}
 use Rattle.bus_dump.specs.DumpTexts.{value_line}
-use Rattle.bus_dump.specs.inside.Watching.{scene_of}
+use Rattle.bus_dump.specs.inside.TimerWalks.{scene_of}
 use Rattle.bus_dump.proofs.change.put_lines.Given as goal
 
 abbrev pub invariant-loop-signal : goal.invariant-loop-signal

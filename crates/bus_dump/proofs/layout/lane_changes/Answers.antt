@@ -1,5 +1,5 @@
 use Rattle.std.proofs.Common.{sym}
-use Rattle.bus_dump.specs.inside.Watching.{scene_of}
+use Rattle.bus_dump.specs.inside.TimerWalks.{scene_of}
 use Rattle.bus_dump.proofs.LaneLemmas.{still_lane}
 use Rattle.bus_dump.proofs.layout.lane_changes.Goals as goal
 

@@ -5,7 +5,7 @@ use Rattle.bus_outer.proofs.TextLaws.{adds_nothing}
 use Rattle.bus_dump.specs.Signals.{lane_signals}
 use Rattle.bus_dump.specs.declared.dump.Dump.{Dump}
 use Rattle.bus_dump.specs.inside.Walks.{change_put}
-use Rattle.bus_dump.specs.inside.Watching.{scene_of}
+use Rattle.bus_dump.specs.inside.TimerWalks.{scene_of}
 use Rattle.bus_dump.proofs.LaneLemmas.{asked_put, still_lane_put}
 use Rattle.bus_dump.proofs.layout.put_lane_changes.Goals as goal
 

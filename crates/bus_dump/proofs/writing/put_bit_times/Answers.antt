@@ -10,8 +10,8 @@ use Rattle.bus_dump.specs.declared.scene.Scene as kept
 use Rattle.bus_dump.specs.inside.Layouts.{layout_signals}
 use Rattle.bus_dump.specs.Scenes.{Scene, elapsed_at, is_breach, scene_at, timed}
 use Rattle.bus_dump.specs.Seen.{seen_at}
-use Rattle.bus_dump.specs.inside.Watching.{BreachStays, ElapsedStays, IsTold, StaysAs, TellsAs, scene_of}
-use Rattle.bus_dump.proofs.WatchLemmas.{told_now}
+use Rattle.bus_dump.specs.inside.TimerWalks.{BreachStays, ElapsedStays, IsTold, StaysAs, TellsAs, scene_of}
+use Rattle.bus_dump.proofs.TimerWalkLemmas.{told_now}
 use Rattle.bus_dump.proofs.WriteLemmas.{first_is, last_put, left_put, next_put, scene_is, scene_stays}
 use Rattle.bus_dump.proofs.writing.put_bit_times.Goals as goal
 
@@ -30,23 +30,23 @@ loop-until-init g c =
     let table = c.args.table.now in
     let from = c.args.from in
     let senders : List Sender = timed dump table in
-    let watch = c.watch_from-watch in
+    let timer_walk = c.timer_walk_from-timer_walk in
     let look = c.look-until in
-    let own : List Entry = watch.result.walk.list.now in
-    let same : own ≡ c.args.list.now = watch.ensures.list in
+    let own : List Entry = timer_walk.result.walk.list.now in
+    let same : own ≡ c.args.list.now = timer_walk.ensures.list in
     let after : look.new.self.walk.list.now ≡ own = look.ensures.list in
-    let kept = look.ensures.told table senders watch.ensures.keeping watch.ensures.timers in
-    let told = told_now c.test_decides.ensures table from look.result senders look.new.self look.new.now.timers.items look.ensures.watch.walkable
+    let kept = look.ensures.told table senders timer_walk.ensures.keeping timer_walk.ensures.timers in
+    let told = told_now c.test_decides.ensures table from look.result senders look.new.self look.new.now.timers.items look.ensures.timer_walk.walkable
     look.ensures.lasts look.ensures.since look.ensures.later kept.0 kept.1 in
     let now : scene_of look.new.now ≡ scene_at dump breach table c.args.list.now from =
     scene_is look.new.now.seen.items (seen_at own from) look.new.now.timers.items (map (elapsed_at table own from) senders) look.new.now.breach
     (is_breach breach from) look.ensures.seen (told.0 ∙ ap (λ (l : List Entry). map (elapsed_at table l from) senders) after)
-    (look.ensures.broken ∙ ap (λ b. is_breach b from) watch.ensures.breach)
+    (look.ensures.broken ∙ ap (λ b. is_breach b from) timer_walk.ensures.breach)
     ∙ ap (λ (l : List Entry). scene_at dump breach table l from) same in
     record {
       list = after ∙ same;
-      breach = look.ensures.breach ∙ watch.ensures.breach;
-      watch = look.ensures.watch;
+      breach = look.ensures.breach ∙ timer_walk.ensures.breach;
+      timer_walk = look.ensures.timer_walk;
       since = look.ensures.since;
       lasts = look.ensures.lasts;
       keeping = kept.0;
@@ -61,7 +61,7 @@ loop-until-init g c =
       stays = subst (λ (l : List Entry). StaysAs (scene_at dump breach table l) from look.result) same
           (scene_stays dump breach table own from look.result look.ensures.steady
           (subst (λ (l : List Entry). ElapsedStays table l senders from look.result) after told.1)
-          (subst (λ b. BreachStays b from look.result) watch.ensures.breach look.ensures.same));
+          (subst (λ b. BreachStays b from look.result) timer_walk.ensures.breach look.ensures.same));
       adds = subst (λ (t : List ℕ). Adds g.K.Sink.held g.K.Sink.faults c.args.sink.now c.put_first.new.sink c.args.text.now c.put_first.new.text t)
           (first_is (layout_signals c.args.layout.now) (scene_at dump breach table c.args.list.now) (scene_of look.new.now) from now)
           c.put_first.ensures;
@@ -84,9 +84,9 @@ loop-until-preserved g c =
     let after : look.new.self.walk.list.now ≡ own = look.ensures.list in
     let before : IsTold table senders c.go_on.new.self c.loop-until.now.timers.items =
     i.told ∙ sym (ap (λ (l : List Entry). map (elapsed_at table l c.go_on.new.self.since) senders) c.go_on.ensures.list
-    ∙ ap (λ x. map (elapsed_at table c.loop-until.watch.walk.list.now x) senders) c.go_on.ensures.since) in
+    ∙ ap (λ x. map (elapsed_at table c.loop-until.timer_walk.walk.list.now x) senders) c.go_on.ensures.since) in
     let kept = look.ensures.told table senders keeping (λ h. before) in
-    let told = told_now c.test_decides.ensures table u look.result senders look.new.self look.new.now.timers.items look.ensures.watch.walkable
+    let told = told_now c.test_decides.ensures table u look.result senders look.new.self look.new.now.timers.items look.ensures.timer_walk.walkable
     look.ensures.lasts look.ensures.since look.ensures.later kept.0 kept.1 in
     let now : scene_of look.new.now ≡ scene_at dump breach table c.args.list.now u =
     scene_is look.new.now.seen.items (seen_at own u) look.new.now.timers.items (map (elapsed_at table own u) senders) look.new.now.breach
@@ -96,7 +96,7 @@ loop-until-preserved g c =
     record {
       list = after ∙ same;
       breach = look.ensures.breach ∙ broken;
-      watch = look.ensures.watch;
+      timer_walk = look.ensures.timer_walk;
       since = look.ensures.since;
       lasts = look.ensures.lasts;
       keeping = kept.0;

@@ -5,26 +5,26 @@ use Rattle.bus_dump.specs.DumpTexts.{changes_at, first_values}
 use Rattle.bus_dump.specs.inside.Layouts.{layout_signals}
 use Rattle.bus_dump.specs.Scenes.{scene_at, timed}
 use Rattle.bus_dump.specs.inside.Walks.{BeginsFrom}
-use Rattle.bus_dump.specs.inside.Watching.{IsTold, IsWatch, Keeping, Lasts, StaysAs, TellsAs, scene_of}
+use Rattle.bus_dump.specs.inside.TimerWalks.{IsTold, IsTimerWalk, Keeping, Lasts, StaysAs, TellsAs, scene_of}
 use Rattle.bus_dump.proofs.writing.put_bit_times.Given as goal
 
--- the watch stands at bit time t, the scene there is known and stays so until then, and all up to t is put
+-- the walk stands at bit time t, the scene there is known and stays so until then, and all up to t is put
 abbrev pub invariant-loop-until : goal.invariant-loop-until
 invariant-loop-until g l = record {
-  list : l.watch.walk.list.now ≡ l.list;
-  breach : l.watch.breach ≡ l.fn.breach;
-  watch : IsWatch l.t l.watch;
-  since : l.watch.since ≤ l.t;
-  lasts : Lasts l.until l.watch;
-  keeping : Keeping l.table (timed l.layout.dump l.table) l.watch;
-  told : IsTold l.table (timed l.layout.dump l.table) l.watch l.now.timers.items;
+  list : l.timer_walk.walk.list.now ≡ l.list;
+  breach : l.timer_walk.breach ≡ l.fn.breach;
+  timer_walk : IsTimerWalk l.t l.timer_walk;
+  since : l.timer_walk.since ≤ l.t;
+  lasts : Lasts l.until l.timer_walk;
+  keeping : Keeping l.table (timed l.layout.dump l.table) l.timer_walk;
+  told : IsTold l.table (timed l.layout.dump l.table) l.timer_walk l.now.timers.items;
   tells : TellsAs l.before l.now;
   now : scene_of l.now ≡ scene_at l.layout.dump l.fn.breach l.table l.list l.t;
   begun : l.from ≤ l.t;
   reached : l.t ≤ l.from ⊎ l.t < l.end;
   later : l.t < l.until;
   most : l.until ≤ l.limit;
-  ahead : BeginsFrom l.watch.walk.list.now l.watch.walk.begun l.until;
+  ahead : BeginsFrom l.timer_walk.walk.list.now l.timer_walk.walk.begun l.until;
   stays : StaysAs (scene_at l.layout.dump l.fn.breach l.table l.list) l.t l.until;
   adds : Adds g.K.Sink.held g.K.Sink.faults l.fn.sink l.sink l.fn.text l.text
       (first_values (layout_signals l.layout) (scene_at l.layout.dump l.fn.breach l.table l.list l.from) l.from

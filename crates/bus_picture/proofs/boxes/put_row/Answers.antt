@@ -15,7 +15,7 @@ ends_at held faults a b b' t u u' {text} sinks texts adds =
 pub loop-sent-init : goal.loop-sent-init
 loop-sent-init g c =
     begun (λ (t : List ℕ). Adds g.K.Sink.held g.K.Sink.faults c.args.sink.now c.args.sink.now c.args.text.now c.args.text.now t)
-    c.args.scale.now c.args.takers.now c.args.row.now c.args.list.now c.args.sents.now c.requires.all
+    c.args.canvas.now.scale c.args.canvas.now.receivers.now c.args.row.now c.args.canvas.now.list.now c.args.sents.now c.requires.all
     (adds_nothing g.K.Sink.held g.K.Sink.faults c.args.sink.now c.args.text.now)
 
 pub loop-sent-preserved : goal.loop-sent-preserved
@@ -26,13 +26,13 @@ loop-sent-preserved g c =
     let told = c.args.sents.now in
     elim c.if-shows.branch [
       | then-shows w ↦
-          took_shown so_far then c.args.scale.now c.args.takers.now c.args.row.now c.args.list.now c.loop-sent.last c.if-shows.last _
+          took_shown so_far then c.args.canvas.now.scale c.args.canvas.now.receivers.now c.args.row.now c.args.canvas.now.list.now c.loop-sent.last c.if-shows.last _
           (drop i told) (drop (i + 1) told) c.loop-sent.invariant (next_left told i _ c.loop-sent-test.true)
           (sym c.shows.ensures ∙ w.if-shows.true) (w.last-is ∙ ap Some w.with_next.ensures)
           (ends_at g.K.Sink.held g.K.Sink.faults c.args.sink.now w.put_written.new.sink c.if-shows.sink c.args.text.now w.put_written.new.text
           c.if-shows.text w.sink-is w.text-is (c.loop-sent.invariant.adds ▸ w.put_written.ensures))
       | else-shows w ↦
-          took_passed so_far then c.args.scale.now c.args.takers.now c.args.row.now c.args.list.now c.loop-sent.last c.if-shows.last _
+          took_passed so_far then c.args.canvas.now.scale c.args.canvas.now.receivers.now c.args.row.now c.args.canvas.now.list.now c.loop-sent.last c.if-shows.last _
           (drop i told) (drop (i + 1) told) c.loop-sent.invariant (next_left told i _ c.loop-sent-test.true)
           (sym c.shows.ensures ∙ w.if-shows.false) w.last-is
           (ends_at g.K.Sink.held g.K.Sink.faults c.args.sink.now c.loop-sent.sink c.if-shows.sink c.args.text.now c.loop-sent.text
@@ -43,6 +43,6 @@ pub returns : goal.returns
 returns g c =
     subst (λ (t : List ℕ). Adds g.K.Sink.held g.K.Sink.faults c.args.sink.now c.put_last.new.sink c.args.text.now c.put_last.new.text t)
     (ended (λ (t : List ℕ). Adds g.K.Sink.held g.K.Sink.faults c.args.sink.now c.loop-sent.sink c.args.text.now c.loop-sent.text t)
-    c.args.scale.now c.args.takers.now c.args.row.now c.args.list.now c.loop-sent.last (drop c.loop-sent.sent-index c.args.sents.now) c.loop-sent.invariant
+    c.args.canvas.now.scale c.args.canvas.now.receivers.now c.args.row.now c.args.canvas.now.list.now c.loop-sent.last (drop c.loop-sent.sent-index c.args.sents.now) c.loop-sent.invariant
     (none_left c.args.sents.now c.loop-sent.sent-index c.loop-sent-test.false))
     (c.loop-sent.invariant.adds ▸ c.put_last.ensures)

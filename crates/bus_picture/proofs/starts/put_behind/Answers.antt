@@ -8,5 +8,5 @@ use Rattle.bus_picture.proofs.starts.put_behind.Goals as goal
 pub returns : goal.returns
 returns g c =
     subst (λ (gap : Gap). Adds g.K.Sink.held g.K.Sink.faults c.args.sink.now c.put_terminal_gap.new.sink c.args.text.now c.put_terminal_gap.new.text
-    (terminal_gap c.args.scale.now c.args.track.top gap)) c.gap_from-gap.ensures c.put_terminal_gap.ensures
+    (terminal_gap c.args.scale.now c.args.timings.top gap)) c.gap_from-gap.ensures c.put_terminal_gap.ensures
     ▸ c.put_last.ensures

@@ -6,10 +6,10 @@ use Rattle.bus_picture.proofs.starts.put_starts.Given as goal
 
 abbrev pub invariant-loop-k : goal.invariant-loop-k
 invariant-loop-k g l = record {
-  adds : Adds g.K.Sink.held g.K.Sink.faults l.fn.sink l.sink l.fn.text l.text (drawn_first l.scale l.list l.track l.k);
-  last : l.last ≡ last_start l.track.terminal (take l.k l.list);
+  adds : Adds g.K.Sink.held g.K.Sink.faults l.fn.sink l.sink l.fn.text l.text (drawn_first l.scale l.list l.timings l.k);
+  last : l.last ≡ last_start l.timings.terminal (take l.k l.list);
   early : IsEarly l.last;
-  hears : Hears l.track.quiet l.track.sg l.track.terminal (take l.k l.list) l.hearing;
+  hears : Hears l.timings.quiet l.timings.sg l.timings.terminal (take l.k l.list) l.hearing;
   before : l.hearing.before.quiet_from ≤ 2 ^ 42;
   all : l.hearing.all.quiet_from ≤ 2 ^ 42;
 }

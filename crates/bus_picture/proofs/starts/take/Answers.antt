@@ -10,6 +10,6 @@ pub returns-clause-adds : goal.returns-clause-adds
 returns-clause-adds g c =
     let moment : c.x.inside.moment ≡ c.args.x.now.moment = ap (λ (e : Entry). e.moment) c.x.view_is in
     subst (λ (gap : Gap). Adds g.K.Sink.held g.K.Sink.faults c.args.sink.now c.put_own.new.sink c.args.text.now c.put_own.new.text
-    (line_text c.args.scale.now c.args.track c.args.hearing.first gap ++ own_text c.args.scale.now c.args.track c.args.last gap c.args.x.now))
-    (c.gap_from-gap.ensures ∙ ap (heard_gap c.args.track c.args.hearing.before) moment)
+    (line_text c.args.scale.now c.args.timings c.args.hearing.first gap ++ own_text c.args.scale.now c.args.timings c.args.last gap c.args.x.now))
+    (c.gap_from-gap.ensures ∙ ap (heard_gap c.args.timings c.args.hearing.before) moment)
     (c.put_line.ensures ▸ c.put_own.ensures.adds)

@@ -3,7 +3,7 @@ use Rattle.std.specs.List.{list_any}
 use Rattle.bus_dump.specs.declared.lane.Lane.{Lane}
 use Rattle.bus_dump.specs.DumpTexts.{changes}
 use Rattle.bus_dump.specs.Signals.{bus_signals, lane_signals}
-use Rattle.bus_dump.specs.inside.Watching.{scene_of}
+use Rattle.bus_dump.specs.inside.TimerWalks.{scene_of}
 use Rattle.bus_dump.proofs.LaneLemmas.{lanes_any}
 use Rattle.bus_dump.proofs.layout.Layout.any_changed.Goals as goal
 

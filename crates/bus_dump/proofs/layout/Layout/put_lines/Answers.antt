@@ -3,7 +3,7 @@ use Rattle.bus_outer.specs.Texts.{Adds}
 use Rattle.bus_outer.proofs.TextLaws.{◌▸◌}
 use Rattle.bus_dump.specs.DumpTexts.{value_line}
 use Rattle.bus_dump.specs.Signals.{bus_signals, lane_signals}
-use Rattle.bus_dump.specs.inside.Watching.{scene_of}
+use Rattle.bus_dump.specs.inside.TimerWalks.{scene_of}
 use Rattle.bus_dump.proofs.LaneLemmas.{all_by_lanes}
 use Rattle.bus_dump.proofs.layout.Layout.put_lines.Goals as goal
 

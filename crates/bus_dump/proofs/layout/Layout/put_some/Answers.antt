@@ -5,7 +5,7 @@ use Rattle.bus_dump.specs.DumpTexts.{some_changes, stamp}
 use Rattle.bus_dump.specs.inside.Layouts.{layout_signals}
 use Rattle.bus_dump.specs.Signals.{bus_signals, lane_signals}
 use Rattle.bus_dump.specs.inside.Walks.{change_put}
-use Rattle.bus_dump.specs.inside.Watching.{scene_of}
+use Rattle.bus_dump.specs.inside.TimerWalks.{scene_of}
 use Rattle.bus_dump.proofs.ChangeLemmas.{changed_put}
 use Rattle.bus_dump.proofs.LaneLemmas.{put_by_lanes}
 use Rattle.bus_dump.proofs.layout.Layout.put_some.Goals as goal

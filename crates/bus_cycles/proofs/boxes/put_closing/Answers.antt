@@ -1,5 +1,0 @@
-use Rattle.bus_outer.proofs.TextLaws.{◌▸◌}
-use Rattle.bus_cycles.proofs.boxes.put_closing.Goals as goal
-
-pub returns : goal.returns
-returns g c = c.put_row_words.ensures ▸ c.put_ends.ensures ▸ c.put_cut_before.ensures ▸ c.put_cut_behind.ensures

@@ -1,8 +1,0 @@
-use Rattle.bus_picture.proofs.TakingLawLemmas.{named_receive, receives_strings}
-use Rattle.bus_picture.proofs.laws.takers_receive.Goals as goal
-
-pub returns-clause-named : goal.returns-clause-named
-returns-clause-named c = named_receive
-
-pub returns-clause-strings : goal.returns-clause-strings
-returns-clause-strings c = receives_strings

@@ -1,0 +1,33 @@
+use Rattle.std.proofs.Common.{◌≡◌, ℕ, ◌+◌, List, ◌++◌, ◌∷◌, [], map, take, arith, sym, ap, subst, ◌∙◌}
+use Rattle.std.proofs.lemmas.List.{map-append, take_all, take_more}
+use Rattle.bus_table.specs.declared.line.TakeLine.{TakeLine}
+use Rattle.bus_table.specs.Tables.{Listener}
+use Rattle.bus_filter.specs.Received.{Taker, listener_taker}
+use Rattle.bus_picture.specs.inside.Noting.{AreNoted, LinesNoted}
+use Rattle.bus_picture.proofs.TakingLemmas.{taker_more}
+use Rattle.bus_picture.proofs.receivers.note_listeners.Goals as goal
+
+pub loop-k-init : goal.loop-k-init
+loop-k-init c = record { kept = λ j h. h; noted = λ taker i. absurd i }
+
+pub loop-k-preserved : goal.loop-k-preserved
+loop-k-preserved c =
+    let i = c.loop-k.invariant in
+    let all : List Listener = c.args.listeners.now in
+    let one : Listener = c.index-listeners-k.result in
+    let may = c.note.new.may in
+    let lines : LinesNoted one.number one.takes may =
+    subst (λ (takes : List TakeLine). LinesNoted one.number takes may) c.takes.ensures.value
+    (subst (λ (n : ℕ). LinesNoted n c.takes.result.now may) c.number.ensures.value c.note.ensures.noted) in
+    let more : map listener_taker (take (c.loop-k.k + 1) all) ≡ map listener_taker (take c.loop-k.k all) ++ listener_taker one ∷ [] =
+    ap (map listener_taker) (take_more all c.loop-k.k one c.loop-k-test.true ∙ ap (λ (s : Listener). take c.loop-k.k all ++ s ∷ []) (sym c.index-listeners-k.is))
+    ∙ map-append listener_taker (take c.loop-k.k all) (one ∷ []) in
+    record {
+      kept = λ j h. c.note.ensures.kept j (i.kept j h);
+      noted = subst (λ (ts : List Taker). AreNoted ts may) (sym more)
+          (taker_more (map listener_taker (take c.loop-k.k all)) (listener_taker one) c.loop-k.may may c.note.ensures.kept i.noted lines);
+    }
+
+pub returns-clause-noted : goal.returns-clause-noted
+returns-clause-noted c =
+    subst (λ (some : List Listener). AreNoted (map listener_taker some) c.loop-k.may) (take_all c.loop-k.k c.args.listeners.now (omega arith)) c.loop-k.invariant.noted

@@ -1,5 +1,0 @@
-use Rattle.bus_outer.proofs.TextLaws.{◌▸◌}
-use Rattle.bus_picture.proofs.takers.Takers.put_words.Goals as goal
-
-pub returns : goal.returns
-returns g c = c.put.ensures ▸ c.put_numbers.ensures
