@@ -193,16 +193,18 @@ def words_of(text, here, definition=None):
 
 
 @functools.cache
-def reached_at_once(definition):
+def reached_at_once(definition, keeps=None):
+    """What a definition names, in all its equations or in those that are kept."""
     if definition.path.suffix == ".rt":
         return []
     here = module(definition.path)
-    found = [word for text in equations(definition.lines) for word in words_of(text, here, definition)]
+    kept = [text for text in equations(definition.lines) if keeps is None or keeps(definition, text)]
+    found = [word for text in kept for word in words_of(text, here, definition)]
     return [word for word in dict.fromkeys(found) if word and word is not definition]
 
 
-def closure(roots):
-    """All that is reached, each before what reaches it."""
+def closure(roots, keeps=None):
+    """All that is reached, each before what reaches it, by all equations or by those that are kept."""
     order, seen, work = [], set(), [(root, False) for root in reversed(roots)]
     while work:
         definition, done = work.pop()
@@ -211,5 +213,5 @@ def closure(roots):
         elif definition not in seen:
             seen.add(definition)
             work.append((definition, True))
-            work += [(word, False) for word in reversed(reached_at_once(definition)) if word not in seen]
+            work += [(word, False) for word in reversed(reached_at_once(definition, keeps)) if word not in seen]
     return order

@@ -1,5 +1,5 @@
 -- The bounds that three words write.
-use Rattle.std.specs.Prelude.{◌≡◌, ℕ, ◌≤◌, true, ◌&&◌, nat_le, List, Option, Some, None}
+use Rattle.std.specs.Prelude.{◌≡◌, ℕ, ◌≤◌, true, ◌&&◌, nat_le, List, Some, None}
 use Rattle.std.proofs.Common.{arith, ap, ◌∙◌, cond}
 use Rattle.std.proofs.lemmas.Bool.Decides.{nat_tests}
 use Rattle.bus_text.specs.Numbers.{IsDecimal, decimal_value}

@@ -10,8 +10,8 @@ use Rattle.bus_command.specs.Acts.{Leaves, written, IsBehind, Ends, Does}
 use Rattle.bus_command.specs.Due.{outcome_with, IsTextOf}
 use Rattle.bus_command.specs.Kinds.{Kind, NoForm, NotRead, TooMuch, Wrong, Late, NotWritten, NoRoom, Answer, kind_of, stage_of, is_answer}
 use Rattle.bus_command.specs.Outside.{Seen, Sources, around, sink_seen}
-use Rattle.bus_command.specs.Readers.{Named, no_source, told, OfTexts, OutCounts}
-use Rattle.bus_command.specs.Stages.{StandsAs, StandsFor, GivesStop, Gives}
+use Rattle.bus_command.specs.Readers.{Named, no_source, known, ForTexts, OutCounts}
+use Rattle.bus_command.specs.Stages.{MayReplaceAs, MayReplace, GivesStop, Gives}
 use Rattle.bus_command.specs.Steps.{IsEarly, Prepares}
 use Rattle.bus_command.specs.inside.Steps.{IsLate}
 use Rattle.bus_command.proofs.PrepareLaws.{both_map}
@@ -35,7 +35,7 @@ pub stopped : {R X Y : Type 0} (IsOf : X → Y → Type 0) (answer : Y → Outco
     → Does named refusing (λ a b. outcome_with answer (made a b)) (λ a b text. IsTextOf answer IsIt (made a b) text) (around before out)
     (around after out) o
 stopped IsOf answer IsIt named refusing made before after out o late p = record {
-  due = both_map (told named.first before.first) (told named.second before.second) _ _
+  due = both_map (known named.first before.first) (known named.second before.second) _ _
       (λ a b g. gives_stands (kind_of o) answer late o (made a b) p.early (low_read named before after (kind_of o) p.counts) g) p.gives;
   text = leaves_early (kind_of o) _ out.bytes p.early;
   first = p.first;
@@ -48,7 +48,7 @@ stopped IsOf answer IsIt named refusing made before after out o late p = record 
 
 -- ---- where they gave a value
 -- what is left of an answer's text, where it is due
-leaves_answered : {R : Type 0} (k : Kind) (due o : Outcome R) (P Q : List ℕ → Type 0) (old new : Option (List ℕ)) → kind_of o ≡ k → StandsAs k due o
+leaves_answered : {R : Type 0} (k : Kind) (due o : Outcome R) (P Q : List ℕ → Type 0) (old new : Option (List ℕ)) → kind_of o ≡ k → MayReplaceAs k due o
     → (is_answer (kind_of due) ≡ true → (text : List ℕ) → P text → Q text) → Leaves k P old new → Leaves k Q old new
 leaves_answered NoForm due o P Q old new is stands f l = l
 leaves_answered (NotRead source) due o P Q old new is stands f l = l
@@ -83,14 +83,14 @@ pub ended : {R X Y : Type 0} (IsOf : X → Y → Type 0) (answer : Y → Outcome
     → Does named refusing (λ a b. outcome_with answer (made a b)) (λ a b text. IsTextOf answer IsIt (made a b) text) (around before old)
     (around after new) o
 ended IsOf answer IsIt named refusing made before after old new x due IsText o agrees p e = record {
-  due = both_map (told named.first before.first) (told named.second before.second) _ _
-      (λ a b g. subst (λ d. StandsFor d o) (sym (due_answer IsOf answer IsIt x due IsText (made a b) agrees g)) e.stands) p.gives;
-  text = leaves_answered (kind_of o) due o IsText (λ text. OfTexts named before (λ a b. IsTextOf answer IsIt (made a b) text)) old.bytes new.bytes refl e.stands
-      (λ written_is text is. both_map (told named.first before.first) (told named.second before.second) _ _
+  due = both_map (known named.first before.first) (known named.second before.second) _ _
+      (λ a b g. subst (λ d. MayReplace d o) (sym (due_answer IsOf answer IsIt x due IsText (made a b) agrees g)) e.stands) p.gives;
+  text = leaves_answered (kind_of o) due o IsText (λ text. ForTexts named before (λ a b. IsTextOf answer IsIt (made a b) text)) old.bytes new.bytes refl e.stands
+      (λ written_is text is. both_map (known named.first before.first) (known named.second before.second) _ _
       (λ a b g. due_text IsOf answer IsIt x due IsText (made a b) agrees g written_is text is) p.gives) e.text;
   first = reads_behind named named.first 1 (kind_of o) before.first after.first (inl refl) e.behind p.first;
   second = reads_behind named named.second 2 (kind_of o) before.second after.second (inr refl) e.behind p.second;
-  order = if_map (told named.first before.first) _ _ (λ first r. if_map (refusing first) (λ refusal. ⊥) _ (λ refusal no. absurd no) r)
+  order = if_map (known named.first before.first) _ _ (λ first r. if_map (refusing first) (λ refusal. ⊥) _ (λ refusal no. absurd no) r)
       p.order;
   counts = behind_counts named before after (kind_of o) e.behind p.counts;
   out_count = e.count;
@@ -105,7 +105,7 @@ pub answered : {R K : Type 0} (named : Named) (due : Outcome R) (IsText : List �
     → Ends named due IsText (sink_seen ghosts k) (sink_seen ghosts k') o
 answered named due IsText ghosts k k' text (Ok u) o answer_is is w came =
     let held : Ends named due IsText (sink_seen ghosts k) (sink_seen ghosts k') due = record {
-      stands = subst (λ n. StandsAs n due due) (sym answer_is) refl;
+      stands = subst (λ n. MayReplaceAs n due due) (sym answer_is) refl;
       text = subst (λ n. Leaves n IsText (ghosts.held k) (ghosts.held k')) (sym answer_is) (text, is, w.ok);
       count = subst (OutCounts (sink_seen ghosts k) (sink_seen ghosts k')) (sym answer_is) w.same;
       behind = subst (IsBehind named) (sym answer_is) tt;
@@ -134,14 +134,14 @@ failed_at (NotRead source) named answer due IsText seen o is late at g = absurd 
 failed_at (TooMuch source) named answer due IsText seen o is late at g = absurd at
 failed_at (Wrong source) named answer due IsText seen o is late at g = absurd at
 failed_at Late named answer due IsText seen o is late at g = record {
-  stands = subst (λ k. StandsAs k (outcome_with answer due) o) (sym is) (ap (outcome_with answer) g);
+  stands = subst (λ k. MayReplaceAs k (outcome_with answer due) o) (sym is) (ap (outcome_with answer) g);
   text = subst (λ k. Leaves k IsText seen.bytes seen.bytes) (sym is) refl;
   count = subst (OutCounts seen seen) (sym is) refl;
   behind = subst (IsBehind named) (sym is) tt;
 }
 failed_at NotWritten named answer due IsText seen o is late at g = absurd at
 failed_at NoRoom named answer due IsText seen o is late at g = record {
-  stands = subst (λ k. StandsAs k (outcome_with answer due) o) (sym is) (stage_with 1 answer (omega arith) late due g);
+  stands = subst (λ k. MayReplaceAs k (outcome_with answer due) o) (sym is) (stage_with 1 answer (omega arith) late due g);
   text = subst (λ k. Leaves k IsText seen.bytes seen.bytes) (sym is) refl;
   count = subst (OutCounts seen seen) (sym is) refl;
   behind = subst (IsBehind named) (sym is) tt;
@@ -157,7 +157,7 @@ failed named answer due IsText seen o late at g = failed_at (kind_of o) named an
 pub refused : {R : Type 0} (named : Named) (IsText : List ℕ → Type 0) (seen : Seen) (o : Outcome R) → kind_of o ≡ Wrong 2 → IsSome named.second
     → Ends named o IsText seen seen o
 refused named IsText seen o is some = record {
-  stands = subst (λ k. StandsAs k o o) (sym is) refl;
+  stands = subst (λ k. MayReplaceAs k o o) (sym is) refl;
   text = subst (λ k. Leaves k IsText seen.bytes seen.bytes) (sym is) refl;
   count = subst (OutCounts seen seen) (sym is) refl;
   behind = subst (IsBehind named) (sym is) (refl, some);

@@ -26,11 +26,11 @@ use Rattle.bus_command.specs.Heard.{behind, format_of, garbled_in}
 use Rattle.bus_command.specs.Kinds.{kind_of}
 use Rattle.bus_command.specs.Stages.{stage_in}
 use Rattle.bus_command.specs.Outside.{Seen, both}
-use Rattle.bus_command.specs.Readers.{OfSome, ReadsBy, Broken, Judged, reader_of, by_recorded, entire}
+use Rattle.bus_command.specs.Readers.{ForKnown, ReadsBy, Broken, Judged, reader_of, by_recorded, entire}
 use Rattle.bus_command.specs.Steps.{Takes, Same, Prepares, stopped_at}
 use Rattle.bus_command.specs.Due.{table_due, table_refusal_of, trace_refusal, trace_or_refusal, trace_due, garbled_where, with_garbled, followed_due, with_followed, recorded_due}
 use Rattle.bus_command.specs.inside.Looking.{LooksBehind, PullFault}
-use Rattle.bus_command.proofs.StageLaws.{some_map, some_all, told_or, then_stage, stop_early, stop_low, gives_on}
+use Rattle.bus_command.proofs.StageLaws.{some_map, some_all, then_stage, stop_early, stop_low, gives_on}
 use Rattle.bus_command.proofs.TakeLemmas.{takes_then}
 use Rattle.bus_command.proofs.TracedLemmas.{reading_stage, trace_refused}
 use Rattle.bus_command.proofs.PrepareLaws.{prepares_none, prepares_both}
@@ -67,9 +67,9 @@ followed_made back hears format trace rest garbled is short h =
 -- ---- the second text
 -- of a source whose bytes are told, what came and what is left
 told_is : (old new : Option (List ℕ)) (bytes rest : List ℕ) (P : List ℕ → Type 0) → Taken old new bytes → IfSome new (λ text. text ≡ rest) → P (bytes ++ rest)
-    → OfSome old P
-told_is old None bytes rest P came left p = subst (λ o. OfSome o P) (sym came) (bytes ++ rest, p)
-told_is old (Some text) bytes rest P came left p = subst (λ o. OfSome o P) (sym came) (subst (λ t. P (bytes ++ t)) (sym left) p)
+    → ForKnown old P
+told_is old None bytes rest P came left p = subst (λ o. ForKnown o P) (sym came) (bytes ++ rest, p)
+told_is old (Some text) bytes rest P came left p = subst (λ o. ForKnown o P) (sym came) (subst (λ t. P (bytes ++ t)) (sym left) p)
 
 -- what was looked at behind the trace
 record Behind (hears : Bool) (between new : Option (List ℕ)) (garbled : Option ℕ) : Type 0 where

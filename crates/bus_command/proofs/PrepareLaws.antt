@@ -6,14 +6,14 @@ use Rattle.bus_command.specs.declared.outcome.Outcome.{Outcome}
 use Rattle.bus_command.specs.Kinds.{Kind, NoForm, NotRead, TooMuch, Wrong, Late, NotWritten, NoRoom, Answer, kind_of}
 use Rattle.bus_command.specs.Stages.{stage_in, GivesStop, Gives, refusal_in}
 use Rattle.bus_command.specs.Outside.{Seen, both}
-use Rattle.bus_command.specs.Readers.{Reader, OfSome, one_source, two_sources, Broken, Past, Judged, ReadsBy, Reads, reach_at, reach}
+use Rattle.bus_command.specs.Readers.{Reader, ForKnown, one_source, two_sources, Broken, Past, Judged, ReadsBy, Reads, reach_at, reach}
 use Rattle.bus_command.specs.Steps.{StopsAt, Takes, StopsFirst, Prepares}
 use Rattle.bus_command.proofs.StageLaws.{if_map, some_map, some_all, where_told, stop_early, gives_first, no_refusal, refused_first}
 use Rattle.bus_command.proofs.ReachLaws.{untouched, nothing_within, reads_own, reads_before, first_counts, second_counts}
 
 pub both_map : (a b : Option (List ℕ)) (P Q : List ℕ → List ℕ → Type 0) → ((x y : List ℕ) → P x y → Q x y)
-    → OfSome a (λ x. OfSome b (λ y. P x y)) → OfSome a (λ x. OfSome b (λ y. Q x y))
-both_map a b P Q f h = some_map a (λ x. OfSome b (λ y. P x y)) (λ x. OfSome b (λ y. Q x y))
+    → ForKnown a (λ x. ForKnown b (λ y. P x y)) → ForKnown a (λ x. ForKnown b (λ y. Q x y))
+both_map a b P Q f h = some_map a (λ x. ForKnown b (λ y. P x y)) (λ x. ForKnown b (λ y. Q x y))
     (λ x k. some_map b (λ y. P x y) (λ y. Q x y) (f x) k) h
 
 -- a command that names the first source alone
@@ -71,8 +71,8 @@ prepares_none IsOf IsNext one two made next old new second o late t = record {
 -- and where it gave a value
 joined : {R X Y V W : Type 0} (IsOf : X → Y → Type 0) (IsNext : V → W → Type 0) (made : List ℕ → Result Y (Outcome R))
     (next : Y → List ℕ → Result W (Outcome R)) (first second : Option (List ℕ)) (x : X) (r : Result V (Outcome R))
-    → OfSome first (λ a. Gives IsOf (Ok x) (made a)) → ((y : Y) → IsOf x y → OfSome second (λ b. Gives IsNext r (next y b)))
-    → OfSome first (λ a. OfSome second (λ b. Gives IsNext r (made a >>= λ y. next y b)))
+    → ForKnown first (λ a. Gives IsOf (Ok x) (made a)) → ((y : Y) → IsOf x y → ForKnown second (λ b. Gives IsNext r (next y b)))
+    → ForKnown first (λ a. ForKnown second (λ b. Gives IsNext r (made a >>= λ y. next y b)))
 joined IsOf IsNext made next first second x r g h = some_map first _ _
     (λ a p. some_map second _ _ (λ b q. subst (λ d. Gives IsNext r (d >>= λ y. next y b)) (sym p.1) q) (h p.0 p.2)) g
 
@@ -84,7 +84,7 @@ pub prepares_both : {R X Y V W : Type 0} (IsOf : X → Y → Type 0) (IsNext : V
     (both new new') r
 prepares_both {R} {X} {Y} {V} {W} IsOf IsNext one two made next old new old' new' x y (Ok v) only t u = record {
   gives = joined IsOf IsNext made next old.bytes old'.bytes x (Ok v) t.gives
-      (λ z is. subst (λ y. OfSome old'.bytes (λ b. Gives IsNext (Ok v) (next y b))) (sym (only z is)) u.gives);
+      (λ z is. subst (λ y. ForKnown old'.bytes (λ b. Gives IsNext (Ok v) (next y b))) (sym (only z is)) u.gives);
   first = t.reads;
   second = u.reads;
   order = if_map old.bytes _ _ (λ text g. no_refusal IsOf x (made text) (λ refusal. ⊥) g) (where_told old.bytes _ t.gives);
@@ -93,7 +93,7 @@ prepares_both {R} {X} {Y} {V} {W} IsOf IsNext one two made next old new old' new
 }
 prepares_both {R} {X} {Y} {V} {W} IsOf IsNext one two made next old new old' new' x y (Err o) only t u = record {
   gives = joined IsOf IsNext made next old.bytes old'.bytes x (Err o) t.gives
-      (λ z is. subst (λ y. OfSome old'.bytes (λ b. Gives IsNext (Err o) (next y b))) (sym (only z is)) u.gives);
+      (λ z is. subst (λ y. ForKnown old'.bytes (λ b. Gives IsNext (Err o) (next y b))) (sym (only z is)) u.gives);
   first = reads_before one (kind_of o) old new u.stops t.reads;
   second = reads_own two 2 (kind_of o) old' new' u.stops u.reads;
   order = if_map old.bytes _ _ (λ text g. no_refusal IsOf x (made text) (StopsFirst {X = V} (both old old') (both new new') (Err o)) g)

@@ -4,9 +4,9 @@ use Rattle.std.proofs.Common.{arith, sym, ap, subst}
 use Rattle.bus_text.specs.AllOf.{◌>>=◌}
 use Rattle.bus_command.specs.declared.outcome.Outcome.{Outcome}
 use Rattle.bus_command.specs.Kinds.{Kind, NoForm, NotRead, TooMuch, Wrong, Late, NotWritten, NoRoom, Answer, kind_of, stage_of}
-use Rattle.bus_command.specs.Stages.{StandsAs, stage_in, GivesStop, Gives, refusal_in}
+use Rattle.bus_command.specs.Stages.{MayReplaceAs, stage_in, GivesStop, Gives, refusal_in}
 use Rattle.bus_command.specs.Outside.{Sources}
-use Rattle.bus_command.specs.Readers.{OfSome}
+use Rattle.bus_command.specs.Readers.{ForKnown}
 use Rattle.bus_command.specs.Steps.{StopsAt, IsEarly, IsRefused}
 use Rattle.bus_command.specs.Due.{outcome_with}
 
@@ -15,22 +15,22 @@ if_map None P Q f h = tt
 if_map (Some x) P Q f h = f x h
 
 -- ---- the text of a source
-pub some_map : (o : Option (List ℕ)) (P Q : List ℕ → Type 0) → ((text : List ℕ) → P text → Q text) → OfSome o P → OfSome o Q
+pub some_map : (o : Option (List ℕ)) (P Q : List ℕ → Type 0) → ((text : List ℕ) → P text → Q text) → ForKnown o P → ForKnown o Q
 some_map None P Q f h = (h.0, f h.0 h.1)
 some_map (Some text) P Q f h = f text h
 
 -- of each text
-pub some_all : (o : Option (List ℕ)) (P : List ℕ → Type 0) → ((text : List ℕ) → P text) → OfSome o P
+pub some_all : (o : Option (List ℕ)) (P : List ℕ → Type 0) → ((text : List ℕ) → P text) → ForKnown o P
 some_all None P f = ([], f [])
 some_all (Some text) P f = f text
 
 -- of the one that is told, or of this one
-pub told_or : (o : Option (List ℕ)) (P : List ℕ → Type 0) (text : List ℕ) → P text → IfSome o P → OfSome o P
+pub told_or : (o : Option (List ℕ)) (P : List ℕ → Type 0) (text : List ℕ) → P text → IfSome o P → ForKnown o P
 told_or None P text p h = (text, p)
 told_or (Some told) P text p h = h
 
 -- where it is told
-pub where_told : (o : Option (List ℕ)) (P : List ℕ → Type 0) → OfSome o P → IfSome o P
+pub where_told : (o : Option (List ℕ)) (P : List ℕ → Type 0) → ForKnown o P → IfSome o P
 where_told None P h = tt
 where_told (Some text) P h = h
 
@@ -128,7 +128,7 @@ same_refusal : {R Y : Type 0} (refusal o : Outcome R) → (let e : Result Y (Out
 same_refusal refusal o h = cc
 
 -- a step that stopped, where its text is refused
-pub stop_stands : {R : Type 0} (Y : Type 0) (k : Kind) (refusal o : Outcome R) → GivesStop {Y = Y} k o (Err refusal) → IsEarly k → StandsAs k refusal o
+pub stop_stands : {R : Type 0} (Y : Type 0) (k : Kind) (refusal o : Outcome R) → GivesStop {Y = Y} k o (Err refusal) → IsEarly k → MayReplaceAs k refusal o
 stop_stands Y NoForm refusal o g early = absurd early
 stop_stands Y (NotRead source) refusal o g early = g
 stop_stands Y (TooMuch source) refusal o g early = same_refusal refusal o g
@@ -162,7 +162,7 @@ stage_with n answer low late (Err o) h = h
 
 -- a step that stopped, before the answer
 pub gives_stands : {R Y : Type 0} (k : Kind) (answer : Y → Outcome R) → ((y : Y) → 2 ≤ stage_of (kind_of (answer y)))
-    → (o : Outcome R) (due : Result Y (Outcome R)) → IsEarly k → IsLowRead k → GivesStop k o due → StandsAs k (outcome_with answer due) o
+    → (o : Outcome R) (due : Result Y (Outcome R)) → IsEarly k → IsLowRead k → GivesStop k o due → MayReplaceAs k (outcome_with answer due) o
 gives_stands NoForm answer late o due early low g = absurd early
 gives_stands (NotRead source) answer late o due early low g = stage_with source answer low late due g
 gives_stands (TooMuch source) answer late o due early low g = ap (outcome_with answer) g

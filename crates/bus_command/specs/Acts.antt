@@ -1,5 +1,6 @@
 -- What a call does to the outside: which outcome it comes to, and what its sources and sinks then hold.
-use Rattle.std.specs.Prelude.{◌≡◌, ◌≢◌, ◌↔◌, ℕ, Bool, false, List, [], Option, IfSome, IfNone, IsNone, IsSome, Result, Ok, Err, String}
+use Rattle.std.specs.Prelude.{◌≡◌, ◌≢◌, ◌↔◌, ℕ, Bool, true, false, List, [], Option, IfSome, IfNone, IsNone, IsSome}
+use Rattle.std.specs.Prelude.{Result, Ok, Err, String}
 use Rattle.std.specs.declared.alloc.Global.{Global}
 use Rattle.bus_outer.specs.Sinks.{Written, WritesText}
 use Rattle.bus_outer.specs.declared.sink.Sink.{Ghosts as SinkGhosts}
@@ -9,11 +10,12 @@ use Rattle.bus_command.specs.declared.outcome.Outcome.{Outcome}
 use Rattle.bus_command.specs.declared.outcome.Outcome.TheVariants.{NoMemory, Usage, WriteFault}
 use Rattle.bus_command.specs.declared.status.Status.{Status}
 use Rattle.bus_command.specs.Causes.{RefusesTexts}
-use Rattle.bus_command.specs.Kinds.{Kind, NoForm, NotRead, TooMuch, Wrong, Late, NotWritten, NoRoom, Answer, kind_of}
+use Rattle.bus_command.specs.Commands.{Command}
+use Rattle.bus_command.specs.Kinds.{Kind, Point, AtWords, AtSource, BehindBoth, Anywhere, Held, Kept, Begun, Whole, kind_of, row_of}
 use Rattle.bus_command.specs.Outcomes.{status_of, fault_line}
-use Rattle.bus_command.specs.Stages.{StandsFor}
+use Rattle.bus_command.specs.Stages.{MayReplace}
 use Rattle.bus_command.specs.Outside.{Seen, Outside, Call, call}
-use Rattle.bus_command.specs.Readers.{Named, told, OfTexts, Reads, reach, SourceCounts, OutCounts}
+use Rattle.bus_command.specs.Readers.{Named, known, ForTexts, Reads, reach, SourceCounts, OutCounts}
 use Rattle.bus_command.specs.Steps.{IsRefused}
 
 -- All of a text is written.
@@ -24,16 +26,15 @@ Holds IsTheText old new = (text : List ℕ) × IsTheText text × Written old new
 abbrev pub Begins : (List ℕ → Type 0) → Option (List ℕ) → Option (List ℕ) → Type 0
 Begins IsTheText old new = (text : List ℕ) × IsTheText text × (rest : List ℕ) × Written old new rest text
 
--- What `out` holds: all of a text where the answer is written, a beginning of one after a failed write, else what it held.
+-- What `out` holds of a text.
+abbrev pub LeavesHeld : Held → (List ℕ → Type 0) → Option (List ℕ) → Option (List ℕ) → Type 0
+LeavesHeld Kept IsTheText old new = new ≡ old
+LeavesHeld Begun IsTheText old new = Begins IsTheText old new
+LeavesHeld Whole IsTheText old new = Holds IsTheText old new
+
+-- All of a text where the answer is written, a beginning of one after a failed write, else what it held.
 abbrev pub Leaves : Kind → (List ℕ → Type 0) → Option (List ℕ) → Option (List ℕ) → Type 0
-Leaves NoForm IsTheText old new = new ≡ old
-Leaves (NotRead source) IsTheText old new = new ≡ old
-Leaves (TooMuch source) IsTheText old new = new ≡ old
-Leaves (Wrong source) IsTheText old new = new ≡ old
-Leaves Late IsTheText old new = new ≡ old
-Leaves NotWritten IsTheText old new = Begins IsTheText old new
-Leaves NoRoom IsTheText old new = new ≡ old
-Leaves Answer IsTheText old new = Holds IsTheText old new
+Leaves kind IsTheText old new = LeavesHeld (row_of kind).out IsTheText old new
 
 -- What a command comes to whose answer was written so.
 abbrev pub written : {R : Type 0} → Result (Unit {0}) Fault → Outcome R → Outcome R
@@ -41,16 +42,21 @@ written (Ok u) reply = reply
 written (Err fault) reply = WriteFault
 
 -- ---- behind the texts
--- A kind to which a command may come that has taken its texts.
+-- A point at which a command may stop that has taken its texts: at the second one, by a rule of the command's own, or behind them.
+abbrev pub IsPointBehind : Named → Point → Type 0
+IsPointBehind named AtWords = ⊥
+IsPointBehind named (AtSource source) = (source ≡ 2) × IsSome named.second
+IsPointBehind named BehindBoth = Unit {0}
+IsPointBehind named Anywhere = Unit {0}
+
+-- The same, where it may at all.
+abbrev pub IsBehindIf : Bool → Named → Point → Type 0
+IsBehindIf false named point = ⊥
+IsBehindIf true named point = IsPointBehind named point
+
+-- A kind to which it may come.
 abbrev pub IsBehind : Named → Kind → Type 0
-IsBehind named NoForm = ⊥
-IsBehind named (NotRead source) = ⊥
-IsBehind named (TooMuch source) = ⊥
-IsBehind named (Wrong source) = (source ≡ 2) × IsSome named.second
-IsBehind named Late = Unit {0}
-IsBehind named NotWritten = Unit {0}
-IsBehind named NoRoom = Unit {0}
-IsBehind named Answer = Unit {0}
+IsBehind named kind = IsBehindIf (row_of kind).behind named (row_of kind).point
 
 -- What a command did that has taken what it needs of its sources, where this outcome is due of it:
 --   stands   it came to that outcome, or to one in its place
@@ -59,7 +65,7 @@ IsBehind named Answer = Unit {0}
 --   behind   nothing that was taken is refused any more, unless by a rule of the command's own for the second text
 pub record Ends {R : Type 0} (named : Named) (due : Outcome R) (IsText : List ℕ → Type 0) (old new : Seen) (outcome : Outcome R)
     : Type 0 where
-  pub stands : StandsFor due outcome
+  pub stands : MayReplace due outcome
   pub text : Leaves (kind_of outcome) IsText old.bytes new.bytes
   pub count : OutCounts old new (kind_of outcome)
   pub behind : IsBehind named (kind_of outcome)
@@ -75,51 +81,42 @@ pub record Ends {R : Type 0} (named : Named) (due : Outcome R) (IsText : List �
 --   form            the words are a form
 pub record Does {R : Type 0} (named : Named) (refusing : List ℕ → Option (Outcome R)) (due_of : List ℕ → List ℕ → Outcome R)
     (IsTextOfBoth : List ℕ → List ℕ → List ℕ → Type 0) (before after : Outside) (outcome : Outcome R) : Type 0 where
-  pub due : OfTexts named before.sources (λ first second. StandsFor (due_of first second) outcome)
-  pub text : Leaves (kind_of outcome) (λ text. OfTexts named before.sources (λ first second. IsTextOfBoth first second text))
+  pub due : ForTexts named before.sources (λ first second. MayReplace (due_of first second) outcome)
+  pub text : Leaves (kind_of outcome) (λ text. ForTexts named before.sources (λ first second. IsTextOfBoth first second text))
       before.out.bytes after.out.bytes
   pub first : Reads named.first (reach 1 (kind_of outcome)) before.sources.first after.sources.first
   pub second : Reads named.second (reach 2 (kind_of outcome)) before.sources.second after.sources.second
-  pub order : IfSome (told named.first before.sources.first)
+  pub order : IfSome (known named.first before.sources.first)
       (λ text. IfSome (refusing text) (λ refusal. IsRefused refusal outcome before.sources after.sources))
   pub counts : SourceCounts named before.sources after.sources (kind_of outcome)
   pub out_count : OutCounts before.out after.out (kind_of outcome)
   pub form : outcome ≢ Usage
 
 -- What a program is that has forms of its own, and refuses of its own what `R` says:
---   form_of    the form of these words
---   sources    the sources that a form names, and how each is read
---   refusing   why a form refuses the first text, whatever the second is
---   memory     whether a form takes any memory
---   due        the outcome of a form for both texts
---   IsText     what a form writes of both texts
---   Cause      the cause of a refusal of the program's own
---   ends       how the program ends with such a refusal
---   line       its line on `err`
+--   form_of   the form of these words
+--   command   the command of a form
+--   ends      how the program ends with such a refusal
+--   line      its line on `err`
 pub record Program (R Form : Type 0) : Type 1 where
   pub form_of : List (List ℕ) → Option Form
-  pub sources : Form → Named
-  pub refusing : Form → List ℕ → Option (Outcome R)
-  pub memory : Form → Bool
-  pub due : Form → List ℕ → List ℕ → Outcome R
-  pub IsText : Form → List ℕ → List ℕ → List ℕ → Type 0
-  pub Cause : Form → R → List ℕ → List ℕ → Type 0
+  pub command : Form → Command R
   pub ends : R → Status
   pub line : R → List ℕ
 
 -- What the command of a form did.
 abbrev pub DoesForm : {R Form : Type 0} → Program R Form → Form → Outside → Outside → Outcome R → Type 0
 DoesForm program form before after outcome =
-    Does (program.sources form) (program.refusing form) (program.due form) (program.IsText form) before after outcome
+    Does (program.command form).named (program.command form).refusing (program.command form).due (program.command form).IsText before after
+    outcome
 
 -- An outcome that refuses a text has its cause in the texts that the sources tell; where one tells nothing, in some text.
 abbrev pub HasCause : {R Form : Type 0} → Program R Form → Form → Outside → Outcome R → Type 0
 HasCause program form before outcome =
-    OfTexts (program.sources form) before.sources (RefusesTexts (program.Cause form) outcome)
+    ForTexts (program.command form).named before.sources (RefusesTexts (program.command form).Cause outcome)
 
 -- A form that takes no memory doesn't come to want of it.
 abbrev pub HasRoom : {R Form : Type 0} → Program R Form → Form → Outcome R → Type 0
-HasRoom program form outcome = program.memory form ≡ false → outcome ≢ NoMemory
+HasRoom program form outcome = (program.command form).memory ≡ false → outcome ≢ NoMemory
 
 -- What a call of a program did:
 --   usage     Usage comes exactly where the words are no form

@@ -12,6 +12,7 @@ pub mod Steps
 pub mod Due
 pub mod Taken
 pub mod Causes
+pub mod Commands
 pub mod Acts
 pub mod Claims
 pub mod About

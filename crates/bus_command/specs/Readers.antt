@@ -11,7 +11,8 @@ use Rattle.bus_trace.specs.Traces.{Recording}
 use Rattle.bus_trace.specs.Limits.{trace_limit}
 use Rattle.bus_trace.specs.Reading.{TakesTrace}
 use Rattle.bus_command.specs.Heard.{Looks, heard_limit, looked_at}
-use Rattle.bus_command.specs.Kinds.{Kind, NoForm, NotRead, TooMuch, Wrong, Late, NotWritten, NoRoom, Answer}
+use Rattle.bus_command.specs.Kinds.{Kind, Point, AtWords, AtSource, BehindBoth, Anywhere, Count, NoCount, OfSource, OfOut, row_of}
+pub use Rattle.bus_command.specs.Kinds.{Reach, Untouched, Broken, Within, Past, Judged}
 use Rattle.bus_command.specs.Outside.{Seen, Sources, Rises, Stays, BothStay}
 
 -- The most bytes that a table text or a messages text may have.
@@ -60,29 +61,20 @@ abbrev pub by_recorded : Bool → Named
 by_recorded hears = two_sources entire (reader_of hears)
 
 -- The bytes of a source, where it is named; none are asked of one that isn't.
-abbrev pub told : Option Reader → Seen → Option (List ℕ)
-told None seen = Some []
-told (Some reader) seen = seen.bytes
+abbrev pub known : Option Reader → Seen → Option (List ℕ)
+known None seen = Some []
+known (Some reader) seen = seen.bytes
 
 -- What holds of the text of a source: of the bytes that it tells, or of some text where it tells nothing.
-abbrev pub OfSome : Option (List ℕ) → (List ℕ → Type 0) → Type 0
-OfSome None P = (text : List ℕ) × P text
-OfSome (Some text) P = P text
+abbrev pub ForKnown : Option (List ℕ) → (List ℕ → Type 0) → Type 0
+ForKnown None P = (text : List ℕ) × P text
+ForKnown (Some text) P = P text
 
 -- The same of both texts.
-abbrev pub OfTexts : Named → Sources → (List ℕ → List ℕ → Type 0) → Type 0
-OfTexts named all P = OfSome (told named.first all.first) (λ first. OfSome (told named.second all.second) (λ second. P first second))
+abbrev pub ForTexts : Named → Sources → (List ℕ → List ℕ → Type 0) → Type 0
+ForTexts named all P = ForKnown (known named.first all.first) (λ first. ForKnown (known named.second all.second) (λ second. P first second))
 
 -- ---- how far a source was read
--- Untouched: it wasn't pulled. Broken: a pull failed, before anything was decided. Within: no byte past the limit was taken. Past: one was,
--- before anything was decided. Judged: it was read as far as its reader goes.
-pub data Reach : Type 0 where
-  Untouched : Reach
-  Broken : Reach
-  Within : Reach
-  Past : Reach
-  Judged : Reach
-
 -- A trace text was taken, or one that is none up to where that is decided.
 abbrev pub TakesDecided : Option (List ℕ) → Option (List ℕ) → Type 0
 TakesDecided old new =
@@ -144,18 +136,35 @@ Reads (Some reader) reach old new = ReadsBy reader reach old new
 abbrev pub reach_at : ℕ → ℕ → Reach → Reach
 reach_at number stop here = if nat_lt stop number then Untouched else (if nat_lt number stop then Judged else here)
 
+-- The same, by the point at which it stopped.
+abbrev pub reach_from : ℕ → Point → Reach → Reach
+reach_from number AtWords here = here
+reach_from number (AtSource source) here = reach_at number source here
+reach_from number BehindBoth here = here
+reach_from number Anywhere here = here
+
 -- How far a source was read, by what the command came to; want of memory may come anywhere.
 abbrev pub reach : ℕ → Kind → Reach
-reach number NoForm = Untouched
-reach number (NotRead source) = reach_at number source Broken
-reach number (TooMuch source) = reach_at number source Past
-reach number (Wrong source) = reach_at number source Judged
-reach number Late = Judged
-reach number NotWritten = Judged
-reach number NoRoom = Within
-reach number Answer = Judged
+reach number kind = reach_from number (row_of kind).point (row_of kind).reach
 
--- ---- the counts of the sources
+-- ---- the counts of faults
+-- A count rose, where it should, or stayed.
+abbrev pub Moves : Bool → Seen → Seen → Type 0
+Moves false old new = Stays old new
+Moves true old new = Rises old new
+
+-- Whether it is that of the source at which the command stopped.
+abbrev pub rises_at_source : Count → Bool
+rises_at_source NoCount = false
+rises_at_source OfSource = true
+rises_at_source OfOut = false
+
+-- Whether it is that of `out`.
+abbrev pub rises_at_out : Count → Bool
+rises_at_out NoCount = false
+rises_at_out OfSource = false
+rises_at_out OfOut = true
+
 -- A source of this number is named.
 abbrev pub IsNamed : Named → ℕ → Type 0
 IsNamed named source = ((source ≡ 1) × IsSome named.first) ⊎ ((source ≡ 2) × IsSome named.second)
@@ -167,24 +176,22 @@ pub data FailsToRead (named : Named) (before after : Sources) (source : ℕ) : T
   Second : source ≡ 2 → IsSome named.second → Stays before.first after.first → Rises before.second after.second
       → FailsToRead named before after source
 
+-- Those of both sources, where the command stopped at one: it is named, and its count rose or did not.
+abbrev pub CountsAtSource : Named → Sources → Sources → ℕ → Bool → Type 0
+CountsAtSource named before after source false = IsNamed named source × BothStay before after
+CountsAtSource named before after source true = FailsToRead named before after source
+
+-- The same, by the point at which it stopped.
+abbrev pub CountsFrom : Named → Sources → Sources → Point → Bool → Type 0
+CountsFrom named before after AtWords rises = BothStay before after
+CountsFrom named before after (AtSource source) rises = CountsAtSource named before after source rises
+CountsFrom named before after BehindBoth rises = BothStay before after
+CountsFrom named before after Anywhere rises = BothStay before after
+
 -- A count of a source rose exactly where it couldn't be read. What is said of a source is said of a named one.
 abbrev pub SourceCounts : Named → Sources → Sources → Kind → Type 0
-SourceCounts named before after NoForm = BothStay before after
-SourceCounts named before after (NotRead source) = FailsToRead named before after source
-SourceCounts named before after (TooMuch source) = IsNamed named source × BothStay before after
-SourceCounts named before after (Wrong source) = IsNamed named source × BothStay before after
-SourceCounts named before after Late = BothStay before after
-SourceCounts named before after NotWritten = BothStay before after
-SourceCounts named before after NoRoom = BothStay before after
-SourceCounts named before after Answer = BothStay before after
+SourceCounts named before after kind = CountsFrom named before after (row_of kind).point (rises_at_source (row_of kind).count)
 
 -- The count of `out` rose exactly where it couldn't be written.
 abbrev pub OutCounts : Seen → Seen → Kind → Type 0
-OutCounts old new NoForm = Stays old new
-OutCounts old new (NotRead source) = Stays old new
-OutCounts old new (TooMuch source) = Stays old new
-OutCounts old new (Wrong source) = Stays old new
-OutCounts old new Late = Stays old new
-OutCounts old new NotWritten = Rises old new
-OutCounts old new NoRoom = Stays old new
-OutCounts old new Answer = Stays old new
+OutCounts old new kind = Moves (rises_at_out (row_of kind).count) old new

@@ -1,39 +1,37 @@
 -- What may stand in place of the outcome that is due.
 use Rattle.std.specs.Prelude.{◌≡◌, ℕ, ◌≤◌, Option, Some, None, Result, Ok, Err}
 use Rattle.bus_command.specs.declared.outcome.Outcome.{Outcome}
-use Rattle.bus_command.specs.Kinds.{Kind, NoForm, NotRead, TooMuch, Wrong, Late, NotWritten, NoRoom, Answer, kind_of, stage_of}
+use Rattle.bus_command.specs.Kinds.{Kind, Answer, Replaced, Itself, From, AnAnswer, kind_of, row_of, stage_of}
 
--- The outcome is the one that is due, or stands in its place: want of memory unless the words are no form, a failed read of a source
--- before which nothing is refused, a failed write where an answer is due.
-abbrev pub StandsAs : {R : Type 0} → Kind → Outcome R → Outcome R → Type 0
-StandsAs NoForm due outcome = due ≡ outcome
-StandsAs (NotRead source) due outcome = source ≤ stage_of (kind_of due)
-StandsAs (TooMuch source) due outcome = due ≡ outcome
-StandsAs (Wrong source) due outcome = due ≡ outcome
-StandsAs Late due outcome = due ≡ outcome
-StandsAs NotWritten due outcome = kind_of due ≡ Answer
-StandsAs NoRoom due outcome = 1 ≤ stage_of (kind_of due)
-StandsAs Answer due outcome = due ≡ outcome
+-- The outcome is the one that is due, or may replace it.
+abbrev pub MayReplaceBy : {R : Type 0} → Replaced → Outcome R → Outcome R → Type 0
+MayReplaceBy Itself due outcome = due ≡ outcome
+MayReplaceBy (From stage) due outcome = stage ≤ stage_of (kind_of due)
+MayReplaceBy AnAnswer due outcome = kind_of due ≡ Answer
+
+-- The same of an outcome of this kind: want of memory unless the words are no form, a failed read of a source before which nothing is
+-- refused, a failed write where an answer is due.
+abbrev pub MayReplaceAs : {R : Type 0} → Kind → Outcome R → Outcome R → Type 0
+MayReplaceAs kind due outcome = MayReplaceBy (row_of kind).replaces due outcome
 
 -- The same, by the kind of the outcome.
-abbrev pub StandsFor : {R : Type 0} → Outcome R → Outcome R → Type 0
-StandsFor due outcome = StandsAs (kind_of outcome) due outcome
+abbrev pub MayReplace : {R : Type 0} → Outcome R → Outcome R → Type 0
+MayReplace due outcome = MayReplaceAs (kind_of outcome) due outcome
 
 -- The stage of what is due to a step: a refusal, or what comes behind it.
 abbrev pub stage_in : {R Y : Type 0} → Result Y (Outcome R) → ℕ
 stage_in (Ok y) = 3
 stage_in (Err refusal) = stage_of (kind_of refusal)
 
--- A step stopped at what is due of it, or at something in its place.
+-- A step stopped at what is due of it, or at something that may replace it.
+abbrev pub StopsBy : {R Y : Type 0} → Replaced → Outcome R → Result Y (Outcome R) → Type 0
+StopsBy Itself outcome due = due ≡ Err outcome
+StopsBy (From stage) outcome due = stage ≤ stage_in due
+StopsBy AnAnswer outcome due = due ≡ Err outcome
+
+-- The same at an outcome of this kind.
 abbrev pub GivesStop : {R Y : Type 0} → Kind → Outcome R → Result Y (Outcome R) → Type 0
-GivesStop NoForm outcome due = due ≡ Err outcome
-GivesStop (NotRead source) outcome due = source ≤ stage_in due
-GivesStop (TooMuch source) outcome due = due ≡ Err outcome
-GivesStop (Wrong source) outcome due = due ≡ Err outcome
-GivesStop Late outcome due = due ≡ Err outcome
-GivesStop NotWritten outcome due = due ≡ Err outcome
-GivesStop NoRoom outcome due = 1 ≤ stage_in due
-GivesStop Answer outcome due = due ≡ Err outcome
+GivesStop kind outcome due = StopsBy (row_of kind).replaces outcome due
 
 -- A step gave what is due of it, which is a value of this kind or a refusal; or something stands in its place.
 abbrev pub Gives : {R X Y : Type 0} → (X → Y → Type 0) → Result X (Outcome R) → Result Y (Outcome R) → Type 0

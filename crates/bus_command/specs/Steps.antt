@@ -3,13 +3,11 @@
 use Rattle.std.specs.Prelude.{◌≡◌, ℕ, List, Vec, Option, IfSome, Result, Ok, Err, IfErr}
 use Rattle.std.specs.declared.alloc.Global.{Global}
 use Rattle.bus_command.specs.declared.outcome.Outcome.{Outcome}
-use Rattle.bus_command.specs.Kinds.{Kind, NoForm, NotRead, TooMuch, Wrong, Late, NotWritten, NoRoom, Answer, kind_of}
-use Rattle.bus_command.specs.Stages.{StandsFor, Gives}
+use Rattle.bus_command.specs.Kinds.{Kind, Answer, Point, AtWords, AtSource, BehindBoth, Anywhere, Reach, IsSo, kind_of, row_of}
+use Rattle.bus_command.specs.Stages.{MayReplace, Gives}
 use Rattle.bus_outer.specs.declared.source.Source.{Ghosts as SourceGhosts}
-use Rattle.bus_command.specs.Outside.{Seen, Sources, Rises, Stays, source_seen, sources_seen}
-use Rattle.bus_command.specs.Readers.{Reader, Named, told, OfSome, OfTexts, Reach, Untouched, Broken, Within, Past, Judged}
-use Rattle.bus_command.specs.Readers.{ReadsBy, Reads, reach}
-use Rattle.bus_command.specs.Readers.{SourceCounts}
+use Rattle.bus_command.specs.Outside.{Seen, Sources, source_seen, sources_seen}
+use Rattle.bus_command.specs.Readers.{Reader, Named, known, ForKnown, ForTexts, ReadsBy, Reads, reach, Moves, rises_at_source, SourceCounts}
 
 -- The kind of what a step came to so far, where nothing stops it behind.
 abbrev pub came_to : {R X : Type 0} → Result X (Outcome R) → Kind
@@ -19,41 +17,27 @@ came_to (Err outcome) = kind_of outcome
 -- ---- a step that reads one source
 -- How far the step read its source.
 abbrev pub stopped_at : Kind → Reach
-stopped_at NoForm = Untouched
-stopped_at (NotRead source) = Broken
-stopped_at (TooMuch source) = Past
-stopped_at (Wrong source) = Judged
-stopped_at Late = Judged
-stopped_at NotWritten = Judged
-stopped_at NoRoom = Within
-stopped_at Answer = Judged
+stopped_at kind = (row_of kind).reach
 
--- A kind at which a step may stop that reads the source of this number.
+-- A point at which a step may stop that reads the source of this number; want of memory may come anywhere.
+abbrev pub StopsAtPoint : ℕ → Point → Type 0
+StopsAtPoint number AtWords = ⊥
+StopsAtPoint number (AtSource source) = source ≡ number
+StopsAtPoint number BehindBoth = ⊥
+StopsAtPoint number Anywhere = Unit {0}
+
+-- A kind at which it may stop.
 abbrev pub StopsAt : ℕ → Kind → Type 0
-StopsAt number NoForm = ⊥
-StopsAt number (NotRead source) = source ≡ number
-StopsAt number (TooMuch source) = source ≡ number
-StopsAt number (Wrong source) = source ≡ number
-StopsAt number Late = ⊥
-StopsAt number NotWritten = ⊥
-StopsAt number NoRoom = Unit {0}
-StopsAt number Answer = ⊥
+StopsAt number kind = StopsAtPoint number (row_of kind).point
 
 -- The count of its source rose exactly where this couldn't be read.
 abbrev pub StepCounts : Seen → Seen → Kind → Type 0
-StepCounts old new NoForm = Stays old new
-StepCounts old new (NotRead source) = Rises old new
-StepCounts old new (TooMuch source) = Stays old new
-StepCounts old new (Wrong source) = Stays old new
-StepCounts old new Late = Stays old new
-StepCounts old new NotWritten = Stays old new
-StepCounts old new NoRoom = Stays old new
-StepCounts old new Answer = Stays old new
+StepCounts old new kind = Moves (rises_at_source (row_of kind).count) old new
 
 -- It reads the source of this number by this reader, and gives what is made of its text; of some text where the source tells nothing.
 pub record Takes {R X Y : Type 0} (IsOf : X → Y → Type 0) (number : ℕ) (reader : Reader) (made : List ℕ → Result Y (Outcome R))
     (old new : Seen) (result : Result X (Outcome R)) : Type 0 where
-  pub gives : OfSome old.bytes (λ text. Gives IsOf result (made text))
+  pub gives : ForKnown old.bytes (λ text. Gives IsOf result (made text))
   pub reads : ReadsBy reader (stopped_at (came_to result)) old new
   pub stops : IfErr result (λ outcome. StopsAt number (kind_of outcome))
   pub counts : StepCounts old new (came_to result)
@@ -75,18 +59,11 @@ Same x y = x ≡ y
 -- ---- the steps before the first written byte
 -- A kind at which a command may stop that has written nothing.
 abbrev pub IsEarly : Kind → Type 0
-IsEarly NoForm = ⊥
-IsEarly (NotRead source) = Unit {0}
-IsEarly (TooMuch source) = Unit {0}
-IsEarly (Wrong source) = Unit {0}
-IsEarly Late = Unit {0}
-IsEarly NotWritten = ⊥
-IsEarly NoRoom = Unit {0}
-IsEarly Answer = ⊥
+IsEarly kind = IsSo (row_of kind).early
 
 -- Where the first text is refused, so is the command, whatever the second source is, which isn't pulled.
 pub record IsRefused {R : Type 0} (refusal outcome : Outcome R) (before after : Sources) : Type 0 where
-  pub stands : StandsFor refusal outcome
+  pub stands : MayReplace refusal outcome
   pub unpulled : after.second ≡ before.second
 
 -- The steps stop at the refusal of the first text.
@@ -98,10 +75,10 @@ StopsFirst before after (Err outcome) refusal = IsRefused refusal outcome before
 --   order   where the first text is refused they stop there
 pub record Prepares {R X Y : Type 0} (IsOf : X → Y → Type 0) (named : Named) (refusing : List ℕ → Option (Outcome R))
     (made : List ℕ → List ℕ → Result Y (Outcome R)) (before after : Sources) (result : Result X (Outcome R)) : Type 0 where
-  pub gives : OfTexts named before (λ first second. Gives IsOf result (made first second))
+  pub gives : ForTexts named before (λ first second. Gives IsOf result (made first second))
   pub first : Reads named.first (reach 1 (came_to result)) before.first after.first
   pub second : Reads named.second (reach 2 (came_to result)) before.second after.second
-  pub order : IfSome (told named.first before.first) (λ text. IfSome (refusing text) (StopsFirst before after result))
+  pub order : IfSome (known named.first before.first) (λ text. IfSome (refusing text) (StopsFirst before after result))
   pub early : IfErr result (λ outcome. IsEarly (kind_of outcome))
   pub counts : SourceCounts named before after (came_to result)
 

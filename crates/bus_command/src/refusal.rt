@@ -14,7 +14,7 @@ pub enum Place {
     /// It refuses what the second text says.
     Second,
     /// It refuses what comes of both texts.
-    Behind,
+    Both,
 }
 
 /// A refusal of a program's own: how the program ends with it, and its line.

@@ -30,19 +30,24 @@ use Rattle.bus_cable.specs.OrderLaws.{IsRunOnPlaces, BorneIsOrderly, PeriodicBor
 use Rattle.bus_trace.specs.Traces.{Recording, IsTrace}
 use Rattle.bus_command.specs.Due.{table_refusal_of}
 use Rattle.bus_command.specs.Outside.{Call}
+use Rattle.bus_command.specs.declared.status.Status.TheVariants as status
 use Rattle.bus_command.specs.Readers.{entire, two_sources, text_limit}
 use Rattle.bus_command.proofs.ClaimLemmas.{claimed, does_of, at_two}
 use Rattle.bus_command.proofs.FewHands.{hands_few}
 use Rattle.bus_command.proofs.LawTypes.{FittingItemsGiveHands, TextReadsAsItsTable}
 use Rattle.bus_command.proofs.ToldLemmas.{table_told}
 use Rattle.bus_tool.specs.Acts.{tool_program, Acts}
-use Rattle.bus_tool.specs.CableClaims.{IsCableOf, IsPlain, IsInOrder, IsTheCableText, GivesOnCable}
+use Rattle.bus_tool.specs.Answering.{Answers, IsTextOf}
+use Rattle.bus_tool.specs.Asking.{IsCableOf}
+use Rattle.bus_tool.specs.CableClaims.{IsPlain, IsInOrder, IsTheTraceOnCable}
 use Rattle.bus_tool.specs.Due.{CableInputs, cable_answer, cable_due}
 use Rattle.bus_tool.specs.Forms.{Cable as OnCable, form_of, four_words}
 use Rattle.bus_tool.specs.Refusals.{Outcome, ToolRefusal, ends_of, status_of}
+use Rattle.bus_tool.specs.Replies.{OnTheCable, hearings_of}
 use Rattle.bus_tool.specs.Texts.{IsOnCable, IsOnCableText, IsCableAnswerText}
 use Rattle.bus_tool.proofs.CableLemmas.{CableLaws, read_told, both_told, on_cable_is_trace}
 use Rattle.bus_tool.proofs.EntryLemmas.{item_lines, all_transmissions}
+use Rattle.bus_tool.proofs.ReplyLemmas.{on_cable_same}
 
 -- the laws of cables
 pub record CableClaimLaws : Type 0 where
@@ -148,29 +153,34 @@ in_order table cable hands horizon schedule list run lawful =
 -- ---- the claim
 text_of : CableClaimLaws → (table : Table) (cable : Cable) (items : List Item) (given : List ℕ) (horizon : ℕ) (text : List ℕ) → IsTrue (is_valid table)
     → IsCableText cable items given → length given ≤ text_limit → items_fit table items ≡ Ok tt → horizon ≤ horizon_limit
-    → IsOnCableText horizon table cable (hands_of table items) text → IsTheCableText table cable (hands_of table items) horizon text
+    → IsOnCableText horizon table cable (hands_of table items) text → IsTextOf (IsTheTraceOnCable table cable (hands_of table items) horizon) text
 text_of laws table cable items given horizon text valid stands short fit within h =
     let dealt = laws.give_hands table items valid (subst IsOk (sym fit) refl) in
     let one = laws.one table (hands_of table items) (delays_on cable) (wakes_on cable) horizon valid dealt in
     record {
-      recording = h.recording;
-      trace = recording_is_trace table cable items given horizon h.recording valid dealt stands short within h.observed;
-      observed = h.observed;
-      only = λ other lawful. one.2 other lawful ∙ sym (one.2 h.recording.list h.observed.lawful);
-      plain = λ plain. record {
-        horizon = h.observed.horizon;
-        holds = h.observed.holds;
-        lawful = plain_is_lawful table cable (hands_of table items) horizon h.recording.list valid dealt plain h.observed.lawful laws.none;
+      reply = OnTheCable h.recording (hearings_of table (delays_on cable) h.recording.list);
+      stands = recording_is_trace table cable items given horizon h.recording valid dealt stands short within h.observed;
+      text_is = h.text_is ∙ on_cable_same table cable h.recording;
+      is = record {
+        trace = h.recording;
+        reply_is = refl;
+        observed = h.observed;
+        only = λ other lawful. one.2 other lawful ∙ sym (one.2 h.recording.list h.observed.lawful);
+        plain = λ plain. record {
+          horizon = h.observed.horizon;
+          holds = h.observed.holds;
+          lawful = plain_is_lawful table cable (hands_of table items) horizon h.recording.list valid dealt plain h.observed.lawful laws.none;
+        };
+        aperiodic = λ most borne wakes end. in_order table cable (hands_of table items) horizon _ h.recording.list
+            (laws.orderly table (hands_of table items) most (place_on cable) (wakes_on cable) horizon valid borne.mode_is borne.accepted borne.even borne.borne borne.near wakes end) h.observed.lawful;
+        periodic = λ most borne wakes end. in_order table cable (hands_of table items) horizon _ h.recording.list
+            (laws.periodic_orderly table (hands_of table items) most (place_on cable) (wakes_on cable) horizon valid borne.mode_is borne.accepted borne.even borne.borne borne.near wakes end) h.observed.lawful;
       };
-      aperiodic = λ most borne wakes end. in_order table cable (hands_of table items) horizon _ h.recording.list
-          (laws.orderly table (hands_of table items) most (place_on cable) (wakes_on cable) horizon valid borne.mode_is borne.accepted borne.even borne.borne borne.near wakes end) h.observed.lawful;
-      periodic = λ most borne wakes end. in_order table cable (hands_of table items) horizon _ h.recording.list
-          (laws.periodic_orderly table (hands_of table items) most (place_on cable) (wakes_on cable) horizon valid borne.mode_is borne.accepted borne.even borne.borne borne.near wakes end) h.observed.lawful;
-      text_is = h.text_is;
     }
 
 pub cable_claim : CableClaimLaws → (call : Call) (outcome : Outcome) (table : Table) (cable : Cable) (items : List Item) (horizon : ℕ)
-    → Acts call outcome → IsCableOf table cable items horizon call → GivesOnCable table cable items horizon call (status_of outcome)
+    → Acts call outcome → IsCableOf table cable items horizon call
+    → Answers call (status_of outcome) status.Done (IsTheTraceOnCable table cable (hands_of table items) horizon)
 cable_claim laws call outcome table cable items horizon acts h =
     let first = h.table_told.text in
     let second = h.cable_told.text in
@@ -179,7 +189,7 @@ cable_claim laws call outcome table cable items horizon acts h =
     both_told table cable items first second (table_told {R = ToolRefusal} laws.table_again table call.before.sources.first h.table_told)
     (read_told laws.texts table cable items second h.cable_told.stands h.cable_told.fit h.cable_told.short) in
     claimed ends_of cable_answer (IsCableAnswerText horizon) (two_sources entire entire) table_refusal_of cable_due first second inputs
-    (IsTheCableText table cable (hands_of table items) horizon) call outcome
+    (IsTextOf (IsTheTraceOnCable table cable (hands_of table items) horizon)) call outcome
     (at_two entire entire call.before.sources first second h.table_told.told h.cable_told.told) due refl
     (λ text is. text_of laws table cable items second horizon text h.table_told.valid h.cable_told.stands h.cable_told.short h.cable_told.fit h.within is)
     (does_of tool_program call outcome (OnCable horizon) (ap form_of h.form.form ∙ cable_form h.number horizon h.spelled h.within) acts) h.undisturbed

@@ -53,11 +53,10 @@ use Rattle.bus_hands.specs.Holds.{hand_holds}
 use Rattle.bus_tool.specs.Texts.{IsCableAnswerText, IsOnCableText, on_cable_text}
 use Rattle.bus_tool.proofs.HoldLemmas.{holds_ascend, holds_ranged}
 use Rattle.bus_tool.proofs.TraceLemmas.{below}
-use Rattle.bus_tool.specs.Causes.{Cause}
+use Rattle.bus_tool.specs.Causes.{Cause, EndIs}
 use Rattle.bus_tool.specs.Due.{CableRead, CableInputs, cable_hands, with_cable, cable_or_refusal, cable_text_due, fitting_on_cable}
 use Rattle.bus_tool.specs.Due.{cable_read_due, cable_due}
 use Rattle.bus_tool.specs.inside.Refused.{cable_refusal}
-use Rattle.bus_tool.specs.Forms.{Form}
 use Rattle.bus_tool.specs.Refusals.{Outcome, ToolRefusal, refuse, CableText, CableUnfit}
 use Rattle.bus_tool.specs.declared.inputs.OnCable.{OnCable}
 use Rattle.bus_tool.specs.declared.inputs.Wired.{Wired}
@@ -251,34 +250,34 @@ pub record CableLaws : Type 0 where
   pub again : (text : List ℕ) (cable : Cable) (items : List Item) → IsCableText cable items text → cable_reading text ≡ Ok (cable, items)
   pub found : (text : List ℕ) (cable : Cable) (items : List Item) → cable_reading text ≡ Ok (cable, items) → IsCableText cable items text
 
-reading_cause : CableLaws → (form : Form) (first second : List ℕ) (o : Outcome) (r : Result CableRead Refusal) → cable_reading second ≡ r → cable_or_refusal r ≡ Err o
-    → RefusesTexts (Cause form) o first second
-reading_cause laws form first second o (Ok read) e h = absurd cc
-reading_cause laws form first second o (Err refusal) e h =
+reading_cause : CableLaws → (IsEnd : EndIs) (first second : List ℕ) (o : Outcome) (r : Result CableRead Refusal) → cable_reading second ≡ r → cable_or_refusal r ≡ Err o
+    → RefusesTexts (Cause IsEnd) o first second
+reading_cause laws IsEnd first second o (Ok read) e h = absurd cc
+reading_cause laws IsEnd first second o (Err refusal) e h =
     let same : refuse (CableText refusal.line refusal.reason) ≡ o = cc in
-    subst (λ (o : Outcome). RefusesTexts (Cause form) o first second) same (λ cable items stands. (let k = laws.again second cable items stands in cc))
+    subst (λ (o : Outcome). RefusesTexts (Cause IsEnd) o first second) same (λ cable items stands. (let k = laws.again second cable items stands in cc))
 
-fit_cause : CableLaws → (form : Form) (first second : List ℕ) (table : Table) (o : Outcome) (read : CableRead) (fit : Result (Unit {0}) FitError) → IsValidText table first
-    → cable_reading second ≡ Ok read → items_fit table read.1 ≡ fit → fitting_on_cable fit read ≡ Err o → RefusesTexts (Cause form) o first second
-fit_cause laws form first second table o read (Ok u) valid is e h = absurd cc
-fit_cause laws form first second table o read (Err error) valid is e h =
+fit_cause : CableLaws → (IsEnd : EndIs) (first second : List ℕ) (table : Table) (o : Outcome) (read : CableRead) (fit : Result (Unit {0}) FitError) → IsValidText table first
+    → cable_reading second ≡ Ok read → items_fit table read.1 ≡ fit → fitting_on_cable fit read ≡ Err o → RefusesTexts (Cause IsEnd) o first second
+fit_cause laws IsEnd first second table o read (Ok u) valid is e h = absurd cc
+fit_cause laws IsEnd first second table o read (Err error) valid is e h =
     let same : refuse (CableUnfit error) ≡ o = cc in
-    subst (λ (o : Outcome). RefusesTexts (Cause form) o first second) same
+    subst (λ (o : Outcome). RefusesTexts (Cause IsEnd) o first second) same
     (record { table = table; cable = read.0; items = read.1; table_is = valid; cable_stands = laws.found second read.0 read.1 is; why = e })
 
-read_cause : CableLaws → (form : Form) (first second : List ℕ) (table : Table) (o : Outcome) → IsValidText table first → cable_read_due table second ≡ Err o
-    → RefusesTexts (Cause form) o first second
-read_cause laws form first second table o valid h = elim (bind_err (cable_text_due second) (λ read. fitting_on_cable (items_fit table read.1) read) o h) [
+read_cause : CableLaws → (IsEnd : EndIs) (first second : List ℕ) (table : Table) (o : Outcome) → IsValidText table first → cable_read_due table second ≡ Err o
+    → RefusesTexts (Cause IsEnd) o first second
+read_cause laws IsEnd first second table o valid h = elim (bind_err (cable_text_due second) (λ read. fitting_on_cable (items_fit table read.1) read) o h) [
   | inl e ↦
-      refuse_text (λ (o : Outcome). RefusesTexts (Cause form) o first second) text_limit 2 second (λ whole. cable_or_refusal (cable_reading whole)) o tt
-      (reading_cause laws form first second o (cable_reading second) refl) e
-  | inr w ↦ fit_cause laws form first second table o w.0 (items_fit table w.0.1) valid (text_read second w.0 w.1) refl w.2
+      refuse_text (λ (o : Outcome). RefusesTexts (Cause IsEnd) o first second) text_limit 2 second (λ whole. cable_or_refusal (cable_reading whole)) o tt
+      (reading_cause laws IsEnd first second o (cable_reading second) refl) e
+  | inr w ↦ fit_cause laws IsEnd first second table o w.0 (items_fit table w.0.1) valid (text_read second w.0 w.1) refl w.2
 ]
 
-pub cable_cause : CauseLaws → CableLaws → (form : Form) (first second : List ℕ) (o : Outcome) → cable_due first second ≡ Err o → RefusesTexts (Cause form) o first second
-cable_cause texts laws form first second o h = elim (both_stop first second o h) [
-  | inl e ↦ table_cause texts (Cause form) first second o e
-  | inr w ↦ read_cause laws form first second w.0 o (table_valid {R = ToolRefusal} texts first w.0 w.1) w.2
+pub cable_cause : CauseLaws → CableLaws → (IsEnd : EndIs) (first second : List ℕ) (o : Outcome) → cable_due first second ≡ Err o → RefusesTexts (Cause IsEnd) o first second
+cable_cause texts laws IsEnd first second o h = elim (both_stop first second o h) [
+  | inl e ↦ table_cause texts (Cause IsEnd) first second o e
+  | inr w ↦ read_cause laws IsEnd first second w.0 o (table_valid {R = ToolRefusal} texts first w.0 w.1) w.2
 ]
 
 -- ---- texts that are told

@@ -1,6 +1,6 @@
 -- What is claimed of `plan` with a delay.
-use Rattle.std.specs.Prelude.{◌≡◌, ◌≢◌, ◌⊎◌, ℕ, ◌≤◌, true, ◌&&◌, ◌==◌, nat_le, IsTrue, List, [], ◌∷◌, Option, Some, None, codes, length}
-use Rattle.std.proofs.Common.{arith, refl, sym, ap, ◌∙◌, subst, cond, inl, inr}
+use Rattle.std.specs.Prelude.{◌≡◌, ◌≢◌, ◌⊎◌, ℕ, ◌≤◌, true, ◌&&◌, ◌==◌, nat_le, IsTrue, List, [], Some, None, codes, length}
+use Rattle.std.proofs.Common.{arith, sym, ap, ◌∙◌, subst, cond, inl, inr}
 use Rattle.std.proofs.lemmas.Bool.{cases_Bool}
 use Rattle.std.proofs.lemmas.Bool.Decides.{nat_tests}
 use Rattle.std.specs.Option.{option_map}
@@ -8,21 +8,25 @@ use Rattle.std.specs.Str.{bytes_eq}
 use Rattle.bus_text.specs.Numbers.{IsDecimal, decimal_value}
 use Rattle.bus_table.specs.Canonical.{table_text}
 use Rattle.bus_table.specs.Ranges.{most_ti}
+use Rattle.bus_table.specs.declared.mode.Mode.TheVariants.{Periodic}
 use Rattle.bus_table.specs.Tables.{Table}
 use Rattle.bus_table.specs.Text.{IsTableText}
 use Rattle.bus_table.specs.Valid.{is_valid}
 use Rattle.bus_cable_plan.specs.declared.planning.CablePlan.{CablePlan}
 use Rattle.bus_cable_plan.specs.declared.planning.CablePlan.TheVariants.{Planned, Infeasible, Undecided}
 use Rattle.bus_cable_plan.specs.Answers.{plan_for_of, plan_best_of}
-use Rattle.bus_cable_plan.specs.Meaning.{IsPlanOf, IsBest, Means, MeansBest, PlansAreRight, BestIsRight}
+use Rattle.bus_cable_plan.specs.Meaning.{IsPlanOf, Means, MeansBest, PlansAreRight, BestIsRight}
 use Rattle.bus_command.specs.Outside.{Call}
 use Rattle.bus_tool.specs.Acts.{Acts}
-use Rattle.bus_tool.specs.CablePlanClaims.{IsPlanForOf, IsPlanBestOf, StandsWherePlanned, GivesPlanFor, GivesPlanBest}
-use Rattle.bus_tool.specs.Due.{cable_plan_outcome}
-use Rattle.bus_tool.specs.Forms.{OnTable, PlanFor, PlanDelay, Bits, Greatest, form_of, is_within, plan_for}
+use Rattle.bus_tool.specs.Answering.{Answers, IsTextOf}
+use Rattle.bus_tool.specs.Asking.{IsPlanForOf, IsPlanBestOf}
+use Rattle.bus_tool.specs.CablePlanClaims.{StandsWherePlanned, is_planned, plan_reply}
+use Rattle.bus_tool.specs.Forms.{OnTable, PlanFor, Bits, Greatest, form_of, is_within, plan_for}
 use Rattle.bus_tool.specs.PlanTexts.{cable_plan_text}
 use Rattle.bus_tool.specs.Refusals.{Outcome, status_of}
+use Rattle.bus_tool.specs.Replies.{Is, yes_or_no}
 use Rattle.bus_tool.proofs.GroupClaims.{ReadLaws, table_answers}
+use Rattle.bus_tool.proofs.ReplyLemmas.{is_text, plan_same, plan_stands as reply_stands, plan_status, with_status}
 
 -- the laws by which it holds
 pub record CablePlanLaws : Type 0 where
@@ -70,24 +74,34 @@ best_stands laws table (Infeasible least ti) p = tt
 best_stands laws table (Undecided least ti) p = tt
 
 -- ---- the claims
+pub plan_for_stands : CablePlanLaws → (call : Call) (d : ℕ) (table : Table) → IsPlanForOf d table call → table.mode ≡ Periodic
+    → StandsWherePlanned (plan_for_of d table)
+plan_for_stands laws call d table h periodic = for_stands laws d table (plan_for_of d table) (laws.plans d table h.table_told.valid periodic)
+
+pub plan_best_stands : CablePlanLaws → (call : Call) (table : Table) → IsPlanBestOf table call → table.mode ≡ Periodic
+    → StandsWherePlanned (plan_best_of table)
+plan_best_stands laws call table h periodic = best_stands laws table (plan_best_of table) (laws.best table h.table_told.valid periodic)
+
 pub plan_for_claim : ReadLaws → CablePlanLaws → (call : Call) (outcome : Outcome) (d : ℕ) (table : Table) → Acts call outcome
-    → IsPlanForOf d table call → GivesPlanFor d table call (status_of outcome)
-plan_for_claim texts laws call outcome d table acts h =
-    let means = laws.plans d table h.table_told.valid h.periodic in
-    record {
-      gives = table_answers texts (PlanFor (Bits d)) call outcome table (λ text. text ≡ cable_plan_text (plan_for_of d table))
-          (for_form d table call h) h.periodic (λ text is. is) acts h.table_told h.undisturbed;
-      stands = for_stands laws d table (plan_for_of d table) means;
-      means = means;
-    }
+    → IsPlanForOf d table call → table.mode ≡ Periodic
+    → Answers call (status_of outcome) (yes_or_no (is_planned (plan_for_of d table))) (Is (plan_reply (plan_for_of d table))) × Means d table (plan_for_of d table)
+plan_for_claim texts laws call outcome d table acts h periodic =
+    let plan = plan_for_of d table in (
+      with_status call (status_of outcome) _ _ (Is (plan_reply plan)) (plan_status plan)
+          (table_answers texts (PlanFor (Bits d)) call outcome table (IsTextOf (Is (plan_reply plan))) (for_form d table call h) periodic
+          (λ text is. is_text (plan_reply plan) (cable_plan_text plan) text (reply_stands plan (plan_for_stands laws call d table h periodic)) (plan_same plan) is)
+          acts h.table_told h.undisturbed),
+      laws.plans d table h.table_told.valid periodic,
+    )
 
 pub plan_best_claim : ReadLaws → CablePlanLaws → (call : Call) (outcome : Outcome) (table : Table) → Acts call outcome
-    → IsPlanBestOf table call → GivesPlanBest table call (status_of outcome)
-plan_best_claim texts laws call outcome table acts h =
-    let means = laws.best table h.table_told.valid h.periodic in
-    record {
-      gives = table_answers texts (PlanFor Greatest) call outcome table (λ text. text ≡ cable_plan_text (plan_best_of table))
-          (best_form table call h) h.periodic (λ text is. is) acts h.table_told h.undisturbed;
-      stands = best_stands laws table (plan_best_of table) means;
-      means = means;
-    }
+    → IsPlanBestOf table call → table.mode ≡ Periodic
+    → Answers call (status_of outcome) (yes_or_no (is_planned (plan_best_of table))) (Is (plan_reply (plan_best_of table))) × MeansBest table (plan_best_of table)
+plan_best_claim texts laws call outcome table acts h periodic =
+    let plan = plan_best_of table in (
+      with_status call (status_of outcome) _ _ (Is (plan_reply plan)) (plan_status plan)
+          (table_answers texts (PlanFor Greatest) call outcome table (IsTextOf (Is (plan_reply plan))) (best_form table call h) periodic
+          (λ text is. is_text (plan_reply plan) (cable_plan_text plan) text (reply_stands plan (plan_best_stands laws call table h periodic)) (plan_same plan) is)
+          acts h.table_told h.undisturbed),
+      laws.best table h.table_told.valid periodic,
+    )

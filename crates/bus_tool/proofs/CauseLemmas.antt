@@ -28,12 +28,12 @@ use Rattle.bus_command.specs.Due.{Inputs, hands_in, inputs_by, traced_due, any_t
 use Rattle.bus_command.proofs.ActLaws.{DueHasCause}
 use Rattle.bus_command.proofs.ReadLemmas.{CauseLaws, table_cause, table_valid, items_cause, items_read, inputs_read, inputs_stop, trace_cause, traced_stop}
 use Rattle.bus_tool.specs.Acts.{tool_program}
-use Rattle.bus_tool.specs.Causes.{Cause, DifferAs, IsRefusal, IsShortLast, IsLongEnd}
+use Rattle.bus_tool.specs.Causes.{Cause, EndIs, IsEndOf, IsNoEnd, DifferAs, IsRefusal, IsShortLast, IsLongEnd}
 use Rattle.bus_tool.specs.Due.{table_for, verdict_outcome, plan_outcome, cable_plan_of, cable_plan_outcome, level_outcome, turns_outcome, outcome_in, margins_outcome, can_run, can_drop, can_schedule, unwave_due, wave_trace_due}
 use Rattle.bus_tool.specs.Due.{table_answer, inputs_answer, traced_answer, unwave_answer}
 use Rattle.bus_tool.proofs.DiagnoseLemmas.{beside_cause}
 use Rattle.bus_tool.proofs.ExplainLemmas.{explain_cause}
-use Rattle.bus_tool.specs.Forms.{Form, OnTable, OnMessages, OnTrace, Unwave, Drill, OnItself, Explain, ExplainBeside, Facts, Cable, TableCommand, Check, Tolerance, Tidy, Report, Witness, Plan, PlanFor, Margins}
+use Rattle.bus_tool.specs.Forms.{OnTable, OnMessages, OnTrace, Unwave, Drill, OnItself, Explain, ExplainBeside, Facts, Cable, TableCommand, Check, Tolerance, Tidy, Report, Witness, Plan, PlanFor, Margins}
 use Rattle.bus_tool.specs.Forms.{MessagesCommand, Observe, Run, Drop, Schedule, table_mode, messages_mode}
 use Rattle.bus_tool.specs.Refusals.{Outcome, ToolRefusal}
 use Rattle.bus_tool.proofs.AnswerLaws.{done_with}
@@ -51,52 +51,52 @@ module _ {Y : Type 0} (P : Outcome → Type 0) (answer : Y → Outcome) where
   due_or (Err r) o given stop h = stop (ap Err h)
 
 -- ---- the answers
-verdict_cause : (form : Form) (first second : List ℕ) (verdict : TableVerdict) → RefusesTexts (Cause form) (verdict_outcome verdict) first second
-verdict_cause form first second (Accept mode least most) = tt
-verdict_cause form first second (ShortCycle least ti) = tt
-verdict_cause form first second (SmallGap terminal gap needed) = tt
-verdict_cause form first second (NoSync terminal gap needed) = tt
+verdict_cause : (IsEnd : EndIs) (first second : List ℕ) (verdict : TableVerdict) → RefusesTexts (Cause IsEnd) (verdict_outcome verdict) first second
+verdict_cause IsEnd first second (Accept mode least most) = tt
+verdict_cause IsEnd first second (ShortCycle least ti) = tt
+verdict_cause IsEnd first second (SmallGap terminal gap needed) = tt
+verdict_cause IsEnd first second (NoSync terminal gap needed) = tt
 
-plan_cause : (form : Form) (first second : List ℕ) (answer : PlanAnswer) → RefusesTexts (Cause form) (plan_outcome answer) first second
-plan_cause form first second (Planned table) = tt
-plan_cause form first second (Infeasible least ti) = tt
+plan_cause : (IsEnd : EndIs) (first second : List ℕ) (answer : PlanAnswer) → RefusesTexts (Cause IsEnd) (plan_outcome answer) first second
+plan_cause IsEnd first second (Planned table) = tt
+plan_cause IsEnd first second (Infeasible least ti) = tt
 
-cable_plan_cause : (form : Form) (first second : List ℕ) (answer : CablePlan) → RefusesTexts (Cause form) (cable_plan_outcome answer) first second
-cable_plan_cause form first second (CablePlanned table) = tt
-cable_plan_cause form first second (NoneBears least ti) = tt
-cable_plan_cause form first second (Undecided least ti) = tt
+cable_plan_cause : (IsEnd : EndIs) (first second : List ℕ) (answer : CablePlan) → RefusesTexts (Cause IsEnd) (cable_plan_outcome answer) first second
+cable_plan_cause IsEnd first second (CablePlanned table) = tt
+cable_plan_cause IsEnd first second (NoneBears least ti) = tt
+cable_plan_cause IsEnd first second (Undecided least ti) = tt
 
-level_cause : (form : Form) (first second : List ℕ) (level : Level) → RefusesTexts (Cause form) (level_outcome level) first second
-level_cause form first second Any = tt
-level_cause form first second Common = tt
-level_cause form first second Neither = tt
+level_cause : (IsEnd : EndIs) (first second : List ℕ) (level : Level) → RefusesTexts (Cause IsEnd) (level_outcome level) first second
+level_cause IsEnd first second Any = tt
+level_cause IsEnd first second Common = tt
+level_cause IsEnd first second Neither = tt
 
-turns_cause : (form : Form) (first second : List ℕ) (level : TurnsLevel) → RefusesTexts (Cause form) (turns_outcome level) first second
-turns_cause form first second Turns = tt
-turns_cause form first second Leads = tt
-turns_cause form first second Unkept = tt
+turns_cause : (IsEnd : EndIs) (first second : List ℕ) (level : TurnsLevel) → RefusesTexts (Cause IsEnd) (turns_outcome level) first second
+turns_cause IsEnd first second Turns = tt
+turns_cause IsEnd first second Leads = tt
+turns_cause IsEnd first second Unkept = tt
 
-cause_in : (form : Form) (first second : List ℕ) (mode : Mode) (bounds : Bounds) (table : Table)
-    → RefusesTexts (Cause form) (outcome_in mode bounds table) first second
-cause_in form first second Aperiodic bounds table = level_cause form first second (level_of bounds table)
-cause_in form first second Periodic bounds table = turns_cause form first second (turns_level bounds table)
+cause_in : (IsEnd : EndIs) (first second : List ℕ) (mode : Mode) (bounds : Bounds) (table : Table)
+    → RefusesTexts (Cause IsEnd) (outcome_in mode bounds table) first second
+cause_in IsEnd first second Aperiodic bounds table = level_cause IsEnd first second (level_of bounds table)
+cause_in IsEnd first second Periodic bounds table = turns_cause IsEnd first second (turns_level bounds table)
 
-margins_cause : (form : Form) (first second : List ℕ) (verdict : TableVerdict) (bounds : Bounds) (table : Table)
-    → RefusesTexts (Cause form) (margins_outcome verdict bounds table) first second
-margins_cause form first second (Accept mode least most) bounds table = cause_in form first second table.mode bounds table
-margins_cause form first second (ShortCycle least ti) bounds table = tt
-margins_cause form first second (SmallGap terminal gap needed) bounds table = tt
-margins_cause form first second (NoSync terminal gap needed) bounds table = tt
+margins_cause : (IsEnd : EndIs) (first second : List ℕ) (verdict : TableVerdict) (bounds : Bounds) (table : Table)
+    → RefusesTexts (Cause IsEnd) (margins_outcome verdict bounds table) first second
+margins_cause IsEnd first second (Accept mode least most) bounds table = cause_in IsEnd first second table.mode bounds table
+margins_cause IsEnd first second (ShortCycle least ti) bounds table = tt
+margins_cause IsEnd first second (SmallGap terminal gap needed) bounds table = tt
+margins_cause IsEnd first second (NoSync terminal gap needed) bounds table = tt
 
-table_answer_cause : (form : Form) (command : TableCommand) (first second : List ℕ) (table : Table) → RefusesTexts (Cause form) (table_answer command table) first second
-table_answer_cause form Check first second table = verdict_cause form first second (verdict_of table)
-table_answer_cause form Tolerance first second table = verdict_cause form first second (verdict_of table)
-table_answer_cause form Tidy first second table = tt
-table_answer_cause form Report first second table = verdict_cause form first second (verdict_of table)
-table_answer_cause form Witness first second table = tt
-table_answer_cause form Plan first second table = plan_cause form first second (plan_of table)
-table_answer_cause form (PlanFor delay) first second table = cable_plan_cause form first second (cable_plan_of delay table)
-table_answer_cause form (Margins bounds) first second table = margins_cause form first second (verdict_of table) bounds table
+table_answer_cause : (IsEnd : EndIs) (command : TableCommand) (first second : List ℕ) (table : Table) → RefusesTexts (Cause IsEnd) (table_answer command table) first second
+table_answer_cause IsEnd Check first second table = verdict_cause IsEnd first second (verdict_of table)
+table_answer_cause IsEnd Tolerance first second table = verdict_cause IsEnd first second (verdict_of table)
+table_answer_cause IsEnd Tidy first second table = tt
+table_answer_cause IsEnd Report first second table = verdict_cause IsEnd first second (verdict_of table)
+table_answer_cause IsEnd Witness first second table = tt
+table_answer_cause IsEnd Plan first second table = plan_cause IsEnd first second (plan_of table)
+table_answer_cause IsEnd (PlanFor delay) first second table = cable_plan_cause IsEnd first second (cable_plan_of delay table)
+table_answer_cause IsEnd (Margins bounds) first second table = margins_cause IsEnd first second (verdict_of table) bounds table
 
 -- ---- a table and messages
 -- the texts of inputs that were read, of which this holds
@@ -115,15 +115,15 @@ texts_with laws command Holds first second inputs h why =
     }
 
 not_run : CauseLaws → (first second : List ℕ) (inputs : Inputs) (o : Outcome) → inputs_by (table_for (messages_mode Run)) first second ≡ Ok inputs
-    → NotRun inputs.table (hands_in inputs) o → RefusesTexts (Cause (OnMessages Run)) o first second
+    → NotRun inputs.table (hands_in inputs) o → RefusesTexts (Cause (IsEndOf Run)) o first second
 not_run laws first second inputs o h (Differ uneven why e) =
-    subst (λ r. RefusesTexts (Cause (OnMessages Run)) r first second) (sym e) (texts_with laws Run (DifferAs uneven) first second inputs h why)
+    subst (λ r. RefusesTexts (Cause (IsEndOf Run)) r first second) (sym e) (texts_with laws Run (DifferAs uneven) first second inputs h why)
 not_run laws first second inputs o h (Refused why e) =
-    subst (λ r. RefusesTexts (Cause (OnMessages Run)) r first second) (sym e)
+    subst (λ r. RefusesTexts (Cause (IsEndOf Run)) r first second) (sym e)
     (texts_with laws Run (IsRefusal (verdict_of inputs.table)) first second inputs h (refl, why))
 not_run laws first second inputs o h (Longer even accepted why e) =
-    subst (λ r. RefusesTexts (Cause (OnMessages Run)) r first second) (sym e)
-    (texts_with laws Run (IsLongEnd (OnMessages Run) (closed_end inputs.table (hands_in inputs))) first second inputs h
+    subst (λ r. RefusesTexts (Cause (IsEndOf Run)) r first second) (sym e)
+    (texts_with laws Run (IsLongEnd (IsEndOf Run) (closed_end inputs.table (hands_in inputs))) first second inputs h
     (record { end_is = (accepted, (even, refl)); above = why }))
 
 aperiodic : (first second : List ℕ) (inputs : Inputs) → inputs_by (table_for (messages_mode Drop)) first second ≡ Ok inputs → inputs.table.mode ≡ Aperiodic
@@ -131,86 +131,86 @@ aperiodic first second inputs h =
     (mode_read (messages_mode Drop) first inputs.table (inputs_read (table_for (messages_mode Drop)) first second inputs h).table_is).1
 
 not_dropped : CauseLaws → (first second : List ℕ) (inputs : Inputs) (o : Outcome) → inputs_by (table_for (messages_mode Drop)) first second ≡ Ok inputs
-    → NotDropped inputs.table (hands_in inputs) o → RefusesTexts (Cause (OnMessages Drop)) o first second
+    → NotDropped inputs.table (hands_in inputs) o → RefusesTexts (Cause (IsEndOf Drop)) o first second
 not_dropped laws first second inputs o h (Undropped why e) =
-    subst (λ r. RefusesTexts (Cause (OnMessages Drop)) r first second) (sym e)
+    subst (λ r. RefusesTexts (Cause (IsEndOf Drop)) r first second) (sym e)
     (texts_with laws Drop (IsRefusal (verdict_of inputs.table)) first second inputs h (refl, why))
 not_dropped laws first second inputs o h (Shorter accepted least is less e) =
-    subst (λ r. RefusesTexts (Cause (OnMessages Drop)) r first second) (sym e)
+    subst (λ r. RefusesTexts (Cause (IsEndOf Drop)) r first second) (sym e)
     (texts_with laws Drop (IsShortLast least inputs.table.ti) first second inputs h
     (record { aperiodic = aperiodic first second inputs h; accepted = accepted; last = is; interval = refl; shorter = less }))
 not_dropped laws first second inputs o h (Overlong accepted long why e) =
-    subst (λ r. RefusesTexts (Cause (OnMessages Drop)) r first second) (sym e)
-    (texts_with laws Drop (IsLongEnd (OnMessages Drop) (drop_end inputs.table (hands_in inputs))) first second inputs h
+    subst (λ r. RefusesTexts (Cause (IsEndOf Drop)) r first second) (sym e)
+    (texts_with laws Drop (IsLongEnd (IsEndOf Drop) (drop_end inputs.table (hands_in inputs))) first second inputs h
     (record { end_is = (accepted, (aperiodic first second inputs h, long, refl)); above = why }))
 
 not_scheduled : CauseLaws → (first second : List ℕ) (inputs : Inputs) (o : Outcome) → inputs_by (table_for (messages_mode Schedule)) first second ≡ Ok inputs
-    → NotScheduled inputs.table (hands_in inputs) o → RefusesTexts (Cause (OnMessages Schedule)) o first second
+    → NotScheduled inputs.table (hands_in inputs) o → RefusesTexts (Cause (IsEndOf Schedule)) o first second
 not_scheduled laws first second inputs o h (Odd uneven why e) =
-    subst (λ r. RefusesTexts (Cause (OnMessages Schedule)) r first second) (sym e) (texts_with laws Schedule (DifferAs uneven) first second inputs h why)
+    subst (λ r. RefusesTexts (Cause (IsEndOf Schedule)) r first second) (sym e) (texts_with laws Schedule (DifferAs uneven) first second inputs h why)
 not_scheduled laws first second inputs o h (Endless even why e) =
-    subst (λ r. RefusesTexts (Cause (OnMessages Schedule)) r first second) (sym e)
-    (texts_with laws Schedule (IsLongEnd (OnMessages Schedule) (closed_end inputs.table (hands_in inputs))) first second inputs h
+    subst (λ r. RefusesTexts (Cause (IsEndOf Schedule)) r first second) (sym e)
+    (texts_with laws Schedule (IsLongEnd (IsEndOf Schedule) (closed_end inputs.table (hands_in inputs))) first second inputs h
     (record { end_is = (even, refl); above = why }))
 
 -- what was asked of the inputs was refused, or they are answered
 messages_answer_cause : CauseLaws → (command : MessagesCommand) (first second : List ℕ) (inputs : Inputs)
     → inputs_by (table_for (messages_mode command)) first second ≡ Ok inputs
-    → RefusesTexts (Cause (OnMessages command)) (inputs_answer command inputs) first second
+    → RefusesTexts (Cause (IsEndOf command)) (inputs_answer command inputs) first second
 messages_answer_cause laws (Observe horizon) first second inputs h = tt
 messages_answer_cause laws Run first second inputs h =
-    due_or (λ o. RefusesTexts (Cause (OnMessages Run)) o first second) done_with (can_run inputs.table (hands_in inputs)) (inputs_answer Run inputs)
+    due_or (λ o. RefusesTexts (Cause (IsEndOf Run)) o first second) done_with (can_run inputs.table (hands_in inputs)) (inputs_answer Run inputs)
     (λ u e. tt) (λ e. not_run laws first second inputs (inputs_answer Run inputs) h (run_err inputs.table (hands_in inputs) (inputs_answer Run inputs) e)) refl
 messages_answer_cause laws Drop first second inputs h =
-    due_or (λ o. RefusesTexts (Cause (OnMessages Drop)) o first second) done_with (can_drop inputs.table (hands_in inputs)) (inputs_answer Drop inputs)
+    due_or (λ o. RefusesTexts (Cause (IsEndOf Drop)) o first second) done_with (can_drop inputs.table (hands_in inputs)) (inputs_answer Drop inputs)
     (λ u e. tt) (λ e. not_dropped laws first second inputs (inputs_answer Drop inputs) h (drop_err inputs.table (hands_in inputs) (inputs_answer Drop inputs) e)) refl
 messages_answer_cause laws Schedule first second inputs h =
-    due_or (λ o. RefusesTexts (Cause (OnMessages Schedule)) o first second) done_with (can_schedule inputs.table (hands_in inputs)) (inputs_answer Schedule inputs)
+    due_or (λ o. RefusesTexts (Cause (IsEndOf Schedule)) o first second) done_with (can_schedule inputs.table (hands_in inputs)) (inputs_answer Schedule inputs)
     (λ u e. tt) (λ e. not_scheduled laws first second inputs (inputs_answer Schedule inputs) h (schedule_err inputs.table (hands_in inputs) (inputs_answer Schedule inputs) e)) refl
 
 inputs_cause : CauseLaws → (command : MessagesCommand) (first second : List ℕ) (o : Outcome)
-    → inputs_by (table_for (messages_mode command)) first second ≡ Err o → RefusesTexts (Cause (OnMessages command)) o first second
+    → inputs_by (table_for (messages_mode command)) first second ≡ Err o → RefusesTexts (Cause (IsEndOf command)) o first second
 inputs_cause laws command first second o h = elim (inputs_stop (table_for (messages_mode command)) first second o h) [
-  | inl e ↦ mode_cause laws (OnMessages command) (messages_mode command) first second o e
-  | inr w ↦ items_cause laws (Cause (OnMessages command)) first second w.0 o
+  | inl e ↦ mode_cause laws (IsEndOf command) (messages_mode command) first second o e
+  | inr w ↦ items_cause laws (Cause (IsEndOf command)) first second w.0 o
       (table_valid {R = ToolRefusal} laws first w.0 (mode_read (messages_mode command) first w.0 w.1).0) w.2
 ]
 
 -- ---- a table and a trace
-traced_cause : CauseLaws → (form : Form) (first second : List ℕ) (o : Outcome) → traced_due first second ≡ Err o → RefusesTexts (Cause form) o first second
-traced_cause laws form first second o h = elim (traced_stop {R = ToolRefusal} any_trace first second o h) [
-  | inl e ↦ table_cause laws (Cause form) first second o e
-  | inr w ↦ trace_cause laws (Cause form) first second o w.2
+traced_cause : CauseLaws → (IsEnd : EndIs) (first second : List ℕ) (o : Outcome) → traced_due first second ≡ Err o → RefusesTexts (Cause IsEnd) o first second
+traced_cause laws IsEnd first second o h = elim (traced_stop {R = ToolRefusal} any_trace first second o h) [
+  | inl e ↦ table_cause laws (Cause IsEnd) first second o e
+  | inr w ↦ trace_cause laws (Cause IsEnd) first second o w.2
 ]
 
 -- ---- the forms
-unwave_cause : CauseLaws → WavesReadBack → (first second : List ℕ) (o : Outcome) → unwave_due first second ≡ Err o → RefusesTexts (Cause Unwave) o first second
+unwave_cause : CauseLaws → WavesReadBack → (first second : List ℕ) (o : Outcome) → unwave_due first second ≡ Err o → RefusesTexts (Cause IsNoEnd) o first second
 unwave_cause laws back first second o h = elim (traced_stop wave_trace_due first second o h) [
-  | inl e ↦ table_cause laws (Cause Unwave) first second o e
-  | inr w ↦ wave_cause back Unwave first second w.0 o (table_valid {R = ToolRefusal} laws first w.0 w.1) w.2
+  | inl e ↦ table_cause laws (Cause IsNoEnd) first second o e
+  | inr w ↦ wave_cause back IsNoEnd first second w.0 o (table_valid {R = ToolRefusal} laws first w.0 w.1) w.2
 ]
 
 pub due_has_cause : CauseLaws → WavesReadBack → CableLaws → DueHasCause tool_program
 due_has_cause laws back cables (OnTable command) first second o h =
-    due_or (λ o. RefusesTexts (Cause (OnTable command)) o first second) (table_answer command) (table_for (table_mode command) first) o
-    (λ table e. table_answer_cause (OnTable command) command first second table)
-    (λ e. mode_cause laws (OnTable command) (table_mode command) first second o e) h
+    due_or (λ o. RefusesTexts (Cause IsNoEnd) o first second) (table_answer command) (table_for (table_mode command) first) o
+    (λ table e. table_answer_cause IsNoEnd command first second table)
+    (λ e. mode_cause laws IsNoEnd (table_mode command) first second o e) h
 due_has_cause laws back cables (OnMessages command) first second o h =
-    due_or (λ o. RefusesTexts (Cause (OnMessages command)) o first second) (inputs_answer command) (inputs_by (table_for (messages_mode command)) first second) o
+    due_or (λ o. RefusesTexts (Cause (IsEndOf command)) o first second) (inputs_answer command) (inputs_by (table_for (messages_mode command)) first second) o
     (λ inputs e. messages_answer_cause laws command first second inputs e)
     (λ e. inputs_cause laws command first second o e) h
 due_has_cause laws back cables (OnTrace command) first second o h =
-    due_or (λ o. RefusesTexts (Cause (OnTrace command)) o first second) (traced_answer command) (traced_due first second) o
+    due_or (λ o. RefusesTexts (Cause IsNoEnd) o first second) (traced_answer command) (traced_due first second) o
     (λ traced e. trace_answer_cause laws command first second traced e)
-    (λ e. traced_cause laws (OnTrace command) first second o e) h
+    (λ e. traced_cause laws IsNoEnd first second o e) h
 due_has_cause laws back cables Unwave first second o h =
-    due_or (λ o. RefusesTexts (Cause Unwave) o first second) unwave_answer (unwave_due first second) o (λ traced e. tt)
+    due_or (λ o. RefusesTexts (Cause IsNoEnd) o first second) unwave_answer (unwave_due first second) o (λ traced e. tt)
     (λ e. unwave_cause laws back first second o e) h
-due_has_cause laws back cables Explain first second o h = explain_cause Explain first second o h
-due_has_cause laws back cables ExplainBeside first second o h = beside_cause ExplainBeside first second o h
-due_has_cause laws back cables Facts first second o h = explain_cause Facts first second o h
-due_has_cause laws back cables (OnItself about) first second o h = subst (λ o. RefusesTexts (Cause (OnItself about)) o first second) h tt
-due_has_cause laws back cables (Drill number) first second o h = subst (λ o. RefusesTexts (Cause (Drill number)) o first second) h tt
+due_has_cause laws back cables Explain first second o h = explain_cause IsNoEnd first second o h
+due_has_cause laws back cables ExplainBeside first second o h = beside_cause IsNoEnd first second o h
+due_has_cause laws back cables Facts first second o h = explain_cause IsNoEnd first second o h
+due_has_cause laws back cables (OnItself about) first second o h = subst (λ o. RefusesTexts (Cause IsNoEnd) o first second) h tt
+due_has_cause laws back cables (Drill number) first second o h = subst (λ o. RefusesTexts (Cause IsNoEnd) o first second) h tt
 due_has_cause laws back cables (Cable horizon) first second o h =
-    due_or (λ o. RefusesTexts (Cause (Cable horizon)) o first second) cable_answer (cable_due first second) o (λ inputs e. tt)
-    (λ e. cable_cause laws cables (Cable horizon) first second o e) h
+    due_or (λ o. RefusesTexts (Cause IsNoEnd) o first second) cable_answer (cable_due first second) o (λ inputs e. tt)
+    (λ e. cable_cause laws cables IsNoEnd first second o e) h

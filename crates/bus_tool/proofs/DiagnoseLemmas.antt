@@ -1,5 +1,5 @@
 -- What is due of two texts of which one stands beside the other, and what is claimed of them.
-use Rattle.std.specs.Prelude.{◌≡◌, ℕ, ◌≤◌, Bool, true, false, nat_lt, IsErrAnd, List, length, Result, Ok, Err, Vec}
+use Rattle.std.specs.Prelude.{◌≡◌, ℕ, ◌≤◌, Bool, true, false, nat_lt, IsErrAnd, IsTrue, List, length, Result, Ok, Err, Vec}
 use Rattle.std.specs.declared.alloc.Global.{Global}
 use Rattle.std.proofs.Common.{arith, cond, refl, sym, ap, ◌∙◌, subst}
 use Rattle.std.proofs.lemmas.Result.{err_from_is_err_and}
@@ -10,6 +10,7 @@ use Rattle.bus_outer.specs.declared.sink.WriteFault.{WriteFault as Fault}
 use Rattle.bus_table.specs.declared.error.TableError.{TableError}
 use Rattle.bus_table.specs.Reading.{answer_of}
 use Rattle.bus_table.specs.Tables.{Table}
+use Rattle.bus_table.specs.Valid.{is_valid}
 use Rattle.bus_regime.specs.declared.table_verdict.TableVerdict.{TableVerdict}
 use Rattle.bus_regime.specs.declared.table_verdict.TableVerdict.TheVariants.{Accept, ShortCycle, SmallGap, NoSync}
 use Rattle.bus_regime.specs.Verdicts.{verdict_of, is_accepted}
@@ -33,12 +34,16 @@ use Rattle.bus_command.proofs.PrepareLaws.{prepares_none, prepares_both}
 use Rattle.bus_command.proofs.TakeLemmas.{takes_then, takes_none}
 use Rattle.bus_command.proofs.TextLemmas.{short_text}
 use Rattle.bus_tool.specs.Acts.{tool_program, Acts}
-use Rattle.bus_tool.specs.Causes.{Cause}
+use Rattle.bus_tool.specs.Causes.{Cause, EndIs}
 use Rattle.bus_tool.specs.Diagnosing.{Beside, beside, beside_due, beside_answer, beside_told, diagnosis_outcome, given_beside, given_told, table_beside, table_told, IsToldBeside}
-use Rattle.bus_tool.specs.DiagnosisClaims.{IsDiagnosisOf, GivesDiagnosis}
+use Rattle.bus_tool.specs.Answering.{Answers, IsTextOf}
+use Rattle.bus_tool.specs.Asking.{IsDiagnosisOf}
+use Rattle.bus_tool.specs.DiagnosisClaims.{TellsBeside, is_right_beside}
+use Rattle.bus_tool.specs.Replies.{Is, TheDiagnosis, yes_or_no}
+use Rattle.bus_tool.proofs.ReplyLemmas.{beside_status, is_text, with_status}
 use Rattle.bus_tool.specs.Due.{verdict_outcome}
 use Rattle.bus_tool.specs.Explanations.{table_explained}
-use Rattle.bus_tool.specs.Forms.{Form, ExplainBeside, entire_beside, form_of}
+use Rattle.bus_tool.specs.Forms.{ExplainBeside, entire_beside, form_of}
 use Rattle.bus_tool.specs.Refusals.{Outcome, ToolRefusal, ends_of, status_of}
 use Rattle.bus_tool.specs.declared.beside.Texts.{Texts}
 use Rattle.bus_tool.specs.inside.TakenBeside.{AreTaken}
@@ -187,14 +192,14 @@ texts_agree taken table text e f = record {
   same y is = ap (λ t. beside t y.text) (sym is.table ∙ e) ∙ ap (beside table) (sym is.text ∙ f)
 
 -- ---- its cause
-given_cause : (form : Form) (answer : Result Table TableError) (text first second : List ℕ) → RefusesTexts (Cause form) (given_beside answer text) first second
-given_cause form (Err error) text first second = tt
-given_cause form (Ok table) text first second = by (is_accepted (verdict_of table)) where
-  found : (b : Bool) → (let outcome : Outcome = cond b Done Answered in RefusesTexts (Cause form) outcome first second)
+given_cause : (IsEnd : EndIs) (answer : Result Table TableError) (text first second : List ℕ) → RefusesTexts (Cause IsEnd) (given_beside answer text) first second
+given_cause IsEnd (Err error) text first second = tt
+given_cause IsEnd (Ok table) text first second = by (is_accepted (verdict_of table)) where
+  found : (b : Bool) → (let outcome : Outcome = cond b Done Answered in RefusesTexts (Cause IsEnd) outcome first second)
   found true = tt
   found false = tt
 
-  by : (b : Bool) → RefusesTexts (Cause form) (cond b (diagnosis_outcome (diagnosis_of table text)) Answered) first second
+  by : (b : Bool) → RefusesTexts (Cause IsEnd) (cond b (diagnosis_outcome (diagnosis_of table text)) Answered) first second
   by true = found (is_right (diagnosis_of table text))
   by false = tt
 
@@ -202,13 +207,13 @@ given_cause form (Ok table) text first second = by (is_accepted (verdict_of tabl
 abbrev sized : Bool → Bool → List ℕ → List ℕ → Result Beside Outcome
 sized a b first second = cond a (Err (TooLarge 1)) (Ok first) >>= λ table. cond b (Err (TooLarge 2)) (Ok second) >>= λ text. Ok (beside table text)
 
-pub beside_cause : (form : Form) (first second : List ℕ) (o : Outcome) → outcome_with beside_answer (beside_due first second) ≡ o → RefusesTexts (Cause form) o first second
-beside_cause form first second o h =
-    subst (λ o. RefusesTexts (Cause form) o first second) h (by (nat_lt text_limit (length first)) (nat_lt trace_limit (length second))) where
-      by : (a b : Bool) → RefusesTexts (Cause form) (outcome_with beside_answer (sized a b first second)) first second
+pub beside_cause : (IsEnd : EndIs) (first second : List ℕ) (o : Outcome) → outcome_with beside_answer (beside_due first second) ≡ o → RefusesTexts (Cause IsEnd) o first second
+beside_cause IsEnd first second o h =
+    subst (λ o. RefusesTexts (Cause IsEnd) o first second) h (by (nat_lt text_limit (length first)) (nat_lt trace_limit (length second))) where
+      by : (a b : Bool) → RefusesTexts (Cause IsEnd) (outcome_with beside_answer (sized a b first second)) first second
       by true b = tt
       by false true = tt
-      by false false = given_cause form (answer_of first) second first second
+      by false false = given_cause IsEnd (answer_of first) second first second
 
 -- only their sizes are refused
 pub beside_unwritten : (first second : List ℕ) (o : Outcome) → beside_due first second ≡ Err o → is_answer (kind_of o) ≡ false
@@ -226,22 +231,23 @@ pub record DiagnosisLaws : Type 0 where
   pub traces : WholeTracesAreTraces
 
 pub diagnosis_claim : DiagnosisLaws → (call : Call) (outcome : Outcome) (table text : List ℕ) → Acts call outcome → IsDiagnosisOf table text call
-    → GivesDiagnosis table text call (status_of outcome)
-diagnosis_claim laws call outcome table text acts h = record {
-  gives =
-      let first = short_text {R = ToolRefusal} text_limit 1 table h.table_short in
-      let second = short_text {R = ToolRefusal} trace_limit 2 text h.text_short in
-      let due : beside_due table text ≡ Ok (beside table text) =
-      ap (λ (r : Result (List ℕ) Outcome). r >>= λ t. text_within trace_limit 2 text >>= λ s. Ok (beside t s)) first
-      ∙ ap (λ (r : Result (List ℕ) Outcome). r >>= λ s. Ok (beside table s)) second in
-      claimed ends_of beside_answer IsToldBeside (two_sources entire entire_beside) (λ t. refusal_in (text_due 1 t)) beside_due table text (beside table text)
-      (λ written. written ≡ beside_told (beside table text)) call outcome (at_two entire entire_beside call.before.sources table text h.table_told h.text_told) due
-      (beside_written (beside table text)) (λ written is. is)
-      (does_of tool_program call outcome ExplainBeside (ap form_of h.form.form) acts) h.undisturbed;
-  tells = λ valid is accepted. record {
-    runs = λ rounds senders end found. laws.runs valid text rounds senders end is found;
-    unfit = λ unfit found. laws.first valid text unfit found;
-    turns = λ rounds senders reach found borne. laws.turns valid text rounds senders reach is accepted found borne;
-    trace = λ count horizon end found. laws.traces valid text count horizon end found;
-  };
-}
+    → Answers call (status_of outcome) (yes_or_no (is_right_beside table text)) (Is (TheDiagnosis table text))
+    × ((valid : Table) → IsTrue (is_valid valid) → IsTrue (is_accepted (verdict_of valid)) → TellsBeside valid text)
+diagnosis_claim laws call outcome table text acts h =
+    let first = short_text {R = ToolRefusal} text_limit 1 table h.table_short in
+    let second = short_text {R = ToolRefusal} trace_limit 2 text h.text_short in
+    let due : beside_due table text ≡ Ok (beside table text) =
+    ap (λ (r : Result (List ℕ) Outcome). r >>= λ t. text_within trace_limit 2 text >>= λ s. Ok (beside t s)) first
+    ∙ ap (λ (r : Result (List ℕ) Outcome). r >>= λ s. Ok (beside table s)) second in (
+      with_status call (status_of outcome) _ _ (Is (TheDiagnosis table text)) (beside_status (answer_of table) text)
+          (claimed ends_of beside_answer IsToldBeside (two_sources entire entire_beside) (λ t. refusal_in (text_due 1 t)) beside_due table text (beside table text)
+          (IsTextOf (Is (TheDiagnosis table text))) call outcome (at_two entire entire_beside call.before.sources table text h.table_told h.text_told) due
+          (beside_written (beside table text)) (λ written is. is_text (TheDiagnosis table text) (beside_told (beside table text)) written tt refl is)
+          (does_of tool_program call outcome ExplainBeside (ap form_of h.form.form) acts) h.undisturbed),
+      (λ valid is accepted. record {
+        runs = λ rounds senders end found. laws.runs valid text rounds senders end is found;
+        unfit = λ unfit found. laws.first valid text unfit found;
+        turns = λ rounds senders reach found borne. laws.turns valid text rounds senders reach is accepted found borne;
+        trace = λ count horizon end found. laws.traces valid text count horizon end found;
+      }),
+    )

@@ -1,5 +1,5 @@
 -- What is due of a text that is explained, and that nothing of it is refused but its size.
-use Rattle.std.specs.Prelude.{◌≡◌, ℕ, ◌≤◌, Bool, true, false, nat_lt, IsTrue, List, length, Result, Ok, Err, Vec, []}
+use Rattle.std.specs.Prelude.{◌≡◌, ℕ, ◌≤◌, Bool, true, false, nat_lt, IsTrue, List, length, Result, Ok, Err, Vec, [], codes}
 use Rattle.std.specs.declared.alloc.Global.{Global}
 use Rattle.std.proofs.Common.{arith, cond, refl, sym, ap, ◌∙◌, subst}
 use Rattle.bus_table.specs.declared.error.TableError.{TableError}
@@ -25,6 +25,7 @@ use Rattle.bus_advice.specs.Laws.{AdvicesWork, NoneMissing, NoStartMissing, Star
 use Rattle.bus_explain.specs.Accepted.{IsAcceptedWith}
 use Rattle.bus_explain.specs.Figures.{spare}
 use Rattle.bus_explain.specs.Laws.{GapsAreTold, IsSpare, LoadIsOfLongestCycle, SpareIsFall, SpareIsRise}
+use Rattle.bus_facts.specs.Facts.{is_accepting}
 use Rattle.bus_outer.specs.declared.sink.Sink.{Ghosts as SinkGhosts}
 use Rattle.bus_command.specs.declared.outcome.Outcome.TheVariants.{Answered, TooLarge}
 use Rattle.bus_command.specs.Acts.{Ends}
@@ -39,11 +40,14 @@ use Rattle.bus_command.proofs.ClaimLemmas.{claimed, does_of, at_one}
 use Rattle.bus_command.proofs.DoLaws.{Agrees}
 use Rattle.bus_command.proofs.TextLemmas.{short_text}
 use Rattle.bus_tool.specs.Acts.{tool_program, Acts}
-use Rattle.bus_tool.specs.Causes.{Cause}
+use Rattle.bus_tool.specs.Causes.{Cause, EndIs}
 use Rattle.bus_tool.specs.Due.{text_outcome, verdict_outcome, explain_answer}
-use Rattle.bus_tool.specs.ExplainClaims.{IsExplainOf, ExplainsAccepted, AdvisesRefused, GivesExplanation, StartsBehind}
+use Rattle.bus_tool.specs.Answering.{Answers, IsTextOf}
+use Rattle.bus_tool.specs.Asking.{IsOfText}
+use Rattle.bus_tool.specs.ExplainClaims.{ExplainsAccepted, AdvisesRefused, ExplainsText, StartsBehind}
+use Rattle.bus_tool.specs.Replies.{Is, TheExplanation, yes_or_no}
 use Rattle.bus_tool.specs.Explanations.{answer_explained, explanation, refused_as, table_explained, verdict_explained}
-use Rattle.bus_tool.specs.Forms.{Form, Explain, form_of}
+use Rattle.bus_tool.specs.Forms.{Explain, form_of}
 use Rattle.bus_tool.specs.Refusals.{Outcome, ToolRefusal, ends_of, status_of}
 use Rattle.bus_tool.specs.Texts.{IsExplanation}
 use Rattle.bus_tool.proofs.AnswerLaws.{written_verdict}
@@ -52,6 +56,7 @@ use Rattle.bus_cable_plan.specs.Meaning.{MostBorneIsRight}
 use Rattle.bus_margins_periodic.specs.Sentences.{drifting}
 use Rattle.bus_tool.specs.ToleranceClaims.{SettlesFromAnyStart}
 use Rattle.bus_tool.proofs.BorneLemmas.{TurnsLaws, tells_turns}
+use Rattle.bus_tool.proofs.ReplyLemmas.{is_text, text_status, with_status}
 use Rattle.bus_tool.proofs.ToleranceClaim.{ToleranceLaws, starts_from, tells}
 
 -- an answer is written of each text
@@ -100,22 +105,22 @@ answer_ends ghosts text answer old new o is ends =
     (sym is) ends
 
 -- ---- its cause
-verdict_cause : (form : Form) (verdict : TableVerdict) (first second : List ℕ) → RefusesTexts (Cause form) (verdict_outcome verdict) first second
-verdict_cause form (Accept mode least most) first second = tt
-verdict_cause form (ShortCycle least ti) first second = tt
-verdict_cause form (SmallGap terminal gap needed) first second = tt
-verdict_cause form (NoSync terminal gap needed) first second = tt
+verdict_cause : (IsEnd : EndIs) (verdict : TableVerdict) (first second : List ℕ) → RefusesTexts (Cause IsEnd) (verdict_outcome verdict) first second
+verdict_cause IsEnd (Accept mode least most) first second = tt
+verdict_cause IsEnd (ShortCycle least ti) first second = tt
+verdict_cause IsEnd (SmallGap terminal gap needed) first second = tt
+verdict_cause IsEnd (NoSync terminal gap needed) first second = tt
 
-answer_cause : (form : Form) (answer : Result Table TableError) (first second : List ℕ) → RefusesTexts (Cause form) (text_outcome answer) first second
-answer_cause form (Ok table) first second = verdict_cause form (verdict_of table) first second
-answer_cause form (Err error) first second = tt
+answer_cause : (IsEnd : EndIs) (answer : Result Table TableError) (first second : List ℕ) → RefusesTexts (Cause IsEnd) (text_outcome answer) first second
+answer_cause IsEnd (Ok table) first second = verdict_cause IsEnd (verdict_of table) first second
+answer_cause IsEnd (Err error) first second = tt
 
-pub explain_cause : (form : Form) (first second : List ℕ) (o : Outcome) → outcome_with explain_answer (text_due 1 first) ≡ o → RefusesTexts (Cause form) o first second
-explain_cause form first second o h =
-    subst (λ o. RefusesTexts (Cause form) o first second) h
-    (elim (nat_lt text_limit (length first)) as (λ b. RefusesTexts (Cause form) (outcome_with explain_answer (cond b (Err (TooLarge 1)) (Ok first))) first second) [
+pub explain_cause : (IsEnd : EndIs) (first second : List ℕ) (o : Outcome) → outcome_with explain_answer (text_due 1 first) ≡ o → RefusesTexts (Cause IsEnd) o first second
+explain_cause IsEnd first second o h =
+    subst (λ o. RefusesTexts (Cause IsEnd) o first second) h
+    (elim (nat_lt text_limit (length first)) as (λ b. RefusesTexts (Cause IsEnd) (outcome_with explain_answer (cond b (Err (TooLarge 1)) (Ok first))) first second) [
       | true ↦ tt
-      | false ↦ answer_cause form (answer_of first) first second
+      | false ↦ answer_cause IsEnd (answer_of first) first second
     ])
 
 -- only its size is refused
@@ -192,14 +197,18 @@ tells_refused laws table valid refused = record {
   whole = laws.whole table valid refused;
 }
 
-pub explain_claim : ExplainLaws → (call : Call) (outcome : Outcome) (text : List ℕ) → Acts call outcome → IsExplainOf text call
-    → GivesExplanation text call (status_of outcome)
-explain_claim laws call outcome text acts h = record {
-  gives = claimed ends_of explain_answer IsExplanation (one_source entire) (λ first. refusal_in (text_due 1 first)) (λ a b. text_due 1 a)
-      text [] text (λ written. written ≡ explanation text) call outcome (at_one entire call.before.sources text h.told)
-      (short_text {R = ToolRefusal} text_limit 1 text h.short) (explained text) (λ written is. is)
-      (does_of tool_program call outcome Explain (ap form_of h.form.form) acts) h.undisturbed;
-  accepted = λ table valid accepted. tells_accepted laws table valid accepted;
-  refused = λ table valid refused. tells_refused laws table valid refused;
-  unread = λ refusal is. laws.stops text refusal is;
-}
+pub explain_claim : ExplainLaws → (call : Call) (outcome : Outcome) (text : List ℕ) → Acts call outcome → IsOfText (codes "explain") text call
+    → Answers call (status_of outcome) (yes_or_no (is_accepting (answer_of text))) (Is (TheExplanation text)) × ExplainsText text
+explain_claim laws call outcome text acts h = (
+  with_status call (status_of outcome) _ _ (Is (TheExplanation text)) (text_status (answer_of text))
+      (claimed ends_of explain_answer IsExplanation (one_source entire) (λ first. refusal_in (text_due 1 first)) (λ a b. text_due 1 a)
+      text [] text (IsTextOf (Is (TheExplanation text))) call outcome (at_one entire call.before.sources text h.told)
+      (short_text {R = ToolRefusal} text_limit 1 text h.short) (explained text)
+      (λ written is. is_text (TheExplanation text) (explanation text) written tt refl is)
+      (does_of tool_program call outcome Explain (ap form_of h.form.form) acts) h.undisturbed),
+  record {
+    accepted = λ table valid accepted. tells_accepted laws table valid accepted;
+    refused = λ table valid refused. tells_refused laws table valid refused;
+    unread = λ refusal is. laws.stops text refusal is;
+  },
+)

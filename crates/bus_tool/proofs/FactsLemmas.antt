@@ -1,8 +1,9 @@
 -- What is due of a text whose facts are told, and what is claimed of them.
-use Rattle.std.specs.Prelude.{◌≡◌, ℕ, Bool, List, Result, Ok, Err, Vec, []}
+use Rattle.std.specs.Prelude.{◌≡◌, ℕ, Bool, List, Result, Ok, Err, Vec, [], codes}
 use Rattle.std.specs.declared.alloc.Global.{Global}
 use Rattle.std.proofs.Common.{cond, refl, sym, ap, ◌∙◌}
 use Rattle.bus_table.specs.declared.error.TableError.{TableError}
+use Rattle.bus_table.specs.Reading.{answer_of}
 use Rattle.bus_table.specs.Tables.{Table}
 use Rattle.bus_regime.specs.Verdicts.{verdict_of, is_accepted}
 use Rattle.bus_regime.specs.declared.table_verdict.TableVerdict.{TableVerdict}
@@ -22,12 +23,16 @@ use Rattle.bus_command.proofs.DoLaws.{Agrees}
 use Rattle.bus_command.proofs.TextLemmas.{short_text}
 use Rattle.bus_tool.specs.Acts.{tool_program, Acts}
 use Rattle.bus_tool.specs.Due.{text_outcome, verdict_outcome, explain_answer}
-use Rattle.bus_tool.specs.FactsClaims.{IsFactsOf, GivesFacts}
+use Rattle.bus_tool.specs.Answering.{Answers, IsTextOf}
+use Rattle.bus_tool.specs.Asking.{IsOfText}
+use Rattle.bus_tool.specs.FactsClaims.{TellsFacts}
 use Rattle.bus_tool.specs.Forms.{Facts, form_of}
 use Rattle.bus_tool.specs.Refusals.{Outcome, ToolRefusal, ends_of, status_of}
+use Rattle.bus_tool.specs.Replies.{Is, TheFacts, yes_or_no}
 use Rattle.bus_tool.specs.Texts.{AreFacts}
 use Rattle.bus_tool.proofs.ExplainLemmas.{ExplainLaws, drifting_range, explained, tells_accepted, tells_refused}
 use Rattle.bus_tool.proofs.MarginsClaim.{MarginsLaws, tells_margins}
+use Rattle.bus_tool.proofs.ReplyLemmas.{is_text, text_status, with_status}
 
 verdict_is : (verdict : TableVerdict) → cond (is_accepted verdict) Done Answered ≡ verdict_outcome verdict
 verdict_is (Accept mode least most) = refl
@@ -58,13 +63,8 @@ pub record FactsLaws : Type 0 where
   pub periodic_in_time : PeriodicAreInTime
   pub margins : MarginsLaws
 
-pub facts_claim : ExplainLaws → FactsLaws → (call : Call) (outcome : Outcome) (text : List ℕ) → Acts call outcome → IsFactsOf text call
-    → GivesFacts text call (status_of outcome)
-facts_claim laws facts call outcome text acts h = record {
-  gives = claimed ends_of explain_answer AreFacts (one_source entire) (λ first. refusal_in (text_due 1 first)) (λ a b. text_due 1 a)
-      text [] text (λ written. written ≡ facts_text text) call outcome (at_one entire call.before.sources text h.told)
-      (short_text {R = ToolRefusal} text_limit 1 text h.short) (explained text) (λ written is. is)
-      (does_of tool_program call outcome Facts (ap form_of h.form.form) acts) h.undisturbed;
+tells : ExplainLaws → FactsLaws → (text : List ℕ) → TellsFacts text
+tells laws facts text = record {
   accepted = λ table valid accepted. tells_accepted laws table valid accepted;
   rules = λ table d valid accepted. facts.limits table d valid accepted;
   in_time = facts.in_time;
@@ -73,3 +73,14 @@ facts_claim laws facts call outcome text acts h = record {
   refused = λ table valid refused. tells_refused laws table valid refused;
   unread = λ refusal is. laws.stops text refusal is;
 }
+
+pub facts_claim : ExplainLaws → FactsLaws → (call : Call) (outcome : Outcome) (text : List ℕ) → Acts call outcome → IsOfText (codes "facts") text call
+    → Answers call (status_of outcome) (yes_or_no (is_accepting (answer_of text))) (Is (TheFacts text)) × TellsFacts text
+facts_claim laws facts call outcome text acts h = (
+  with_status call (status_of outcome) _ _ (Is (TheFacts text)) (text_status (answer_of text))
+      (claimed ends_of explain_answer AreFacts (one_source entire) (λ first. refusal_in (text_due 1 first)) (λ a b. text_due 1 a)
+      text [] text (IsTextOf (Is (TheFacts text))) call outcome (at_one entire call.before.sources text h.told)
+      (short_text {R = ToolRefusal} text_limit 1 text h.short) (explained text) (λ written is. is_text (TheFacts text) (facts_text text) written tt refl is)
+      (does_of tool_program call outcome Facts (ap form_of h.form.form) acts) h.undisturbed),
+  tells laws facts text,
+)

@@ -1,7 +1,7 @@
 -- What is claimed of what is found in a recording.
-use Rattle.std.specs.Prelude.{◌≡◌, ℕ, ◌≤◌, true, ◌&&◌, false, List, [], ◌∷◌, codes, Option, Some, None}
-use Rattle.std.proofs.Common.{ap, ◌∙◌, cond, subst, sym}
-use Rattle.bus_text.specs.Numbers.{IsDecimal, decimal_value}
+use Rattle.std.specs.Prelude.{◌≡◌, true, ◌&&◌, not, false, [], ◌∷◌, codes, Option, Some, None}
+use Rattle.std.proofs.Common.{ap, ◌∙◌, cond, refl, subst, sym}
+use Rattle.bus_text.specs.Numbers.{decimal_value}
 use Rattle.bus_bounds.specs.Bounds.{Bounds, most_clocks}
 use Rattle.bus_table.specs.Tables.{Table}
 use Rattle.bus_trace.specs.Traces.{Recording, IsTrace}
@@ -11,12 +11,16 @@ use Rattle.bus_findings.specs.Terminals.{has_fault}
 use Rattle.bus_recording_lawful.specs.Faultless.{LawfulHasNoFault}
 use Rattle.bus_command.specs.Outside.{Call}
 use Rattle.bus_tool.specs.Acts.{Acts}
-use Rattle.bus_tool.specs.FindingsClaims.{AreTrue, IsDiagnoseOf, GivesFindings}
+use Rattle.bus_tool.specs.Answering.{Answers}
+use Rattle.bus_tool.specs.Asking.{IsDiagnoseOf}
+use Rattle.bus_tool.specs.FindingsClaims.{AreTrue, TellsFindings}
 use Rattle.bus_tool.specs.Forms.{Form, OnTrace, Diagnose, form_of, is_within, are_near_bounds, bounds_of, most_near_delay, most_near_jitter}
 use Rattle.bus_tool.specs.Refusals.{Outcome, status_of}
+use Rattle.bus_tool.specs.Replies.{Is, TheFindings, yes_or_no}
 use Rattle.bus_tool.proofs.AnswerLaws.{written_findings}
 use Rattle.bus_tool.proofs.GroupClaims.{ReadLaws, trace_answers}
 use Rattle.bus_tool.proofs.MarginsClaim.{within_is, bounds_with}
+use Rattle.bus_tool.proofs.ReplyLemmas.{findings_status, replies, with_status}
 
 -- the laws by which it holds
 pub record FindingsLaws : Type 0 where
@@ -35,16 +39,16 @@ pub record FindingsLaws : Type 0 where
 bounds_are : (bounds : Bounds) (table : Table) (trace : Recording) (call : Call) (h : IsDiagnoseOf bounds table trace call)
     → are_near_bounds h.delay h.jitter h.clocks ≡ true
 bounds_are bounds table trace call h =
-    ap (λ b. b && (is_within most_near_jitter h.jitter && is_within most_clocks h.clocks)) (within_is most_near_delay bounds.delay h.delay h.delay_is h.within.delay)
-    ∙ ap (λ b. b && is_within most_clocks h.clocks) (within_is most_near_jitter bounds.jitter h.jitter h.jitter_is h.within.jitter)
-    ∙ within_is most_clocks bounds.clocks h.clocks h.clocks_is h.within.clocks
+    ap (λ b. b && (is_within most_near_jitter h.jitter && is_within most_clocks h.clocks)) (within_is most_near_delay bounds.delay h.delay h.words_are.delay_is h.within.delay)
+    ∙ ap (λ b. b && is_within most_clocks h.clocks) (within_is most_near_jitter bounds.jitter h.jitter h.words_are.jitter_is h.within.jitter)
+    ∙ within_is most_clocks bounds.clocks h.clocks h.words_are.clocks_is h.within.clocks
 
 same_bounds : (bounds : Bounds) (table : Table) (trace : Recording) (call : Call) (h : IsDiagnoseOf bounds table trace call)
     → bounds_of h.delay h.jitter h.clocks ≡ bounds
 same_bounds bounds table trace call h =
-    ap (λ n. bounds_with n (decimal_value h.jitter) (decimal_value h.clocks)) h.delay_is.value
-    ∙ ap (λ n. bounds_with bounds.delay n (decimal_value h.clocks)) h.jitter_is.value
-    ∙ ap (bounds_with bounds.delay bounds.jitter) h.clocks_is.value
+    ap (λ n. bounds_with n (decimal_value h.jitter) (decimal_value h.clocks)) h.words_are.delay_is.value
+    ∙ ap (λ n. bounds_with bounds.delay n (decimal_value h.clocks)) h.words_are.jitter_is.value
+    ∙ ap (bounds_with bounds.delay bounds.jitter) h.words_are.clocks_is.value
 
 diagnose_form : (bounds : Bounds) (table : Table) (trace : Recording) (call : Call) → IsDiagnoseOf bounds table trace call
     → form_of call.words ≡ Some (OnTrace (Diagnose bounds))
@@ -55,13 +59,11 @@ diagnose_form bounds table trace call h =
     ∙ ap some (same_bounds bounds table trace call h)
 
 -- ---- the claim
-pub findings_claim : ReadLaws → FindingsLaws → (call : Call) (outcome : Outcome) (bounds : Bounds) (table : Table) (trace : Recording) → Acts call outcome
-    → IsDiagnoseOf bounds table trace call → GivesFindings bounds table trace call (status_of outcome)
-findings_claim texts laws call outcome bounds table trace acts h =
+tells : FindingsLaws → (call : Call) (bounds : Bounds) (table : Table) (trace : Recording) → IsDiagnoseOf bounds table trace call
+    → TellsFindings bounds table trace
+tells laws call bounds table trace h =
     let is_trace : IsTrace trace = h.traced.trace_told.stands.text.trace in
     record {
-      gives = trace_answers texts (Diagnose bounds) (codes "diagnose") (h.delay ∷ h.jitter ∷ h.clocks ∷ []) call outcome table trace
-          (diagnose_form bounds table trace call h) (written_findings (has_fault bounds table trace)) acts h.traced;
       unblamed = λ sender x keeps of. laws.unblamed bounds table trace sender x is_trace keeps of;
       files = λ sender x keeps of. laws.files bounds table trace sender x is_trace keeps of;
       courses = λ sender x sends of. laws.courses bounds table trace sender x is_trace sends of;
@@ -75,3 +77,15 @@ findings_claim texts laws call outcome bounds table trace acts h =
       ticks = λ sender s x o. laws.ticks bounds table trace sender s x o is_trace;
       gap = λ sender s x. laws.gap bounds table trace sender s x is_trace;
     }
+
+pub findings_claim : ReadLaws → FindingsLaws → (call : Call) (outcome : Outcome) (bounds : Bounds) (table : Table) (trace : Recording) → Acts call outcome
+    → IsDiagnoseOf bounds table trace call
+    → Answers call (status_of outcome) (yes_or_no (not (has_fault bounds table trace))) (Is (TheFindings bounds table trace))
+    × TellsFindings bounds table trace
+findings_claim texts laws call outcome bounds table trace acts h = (
+  with_status call (status_of outcome) _ _ (Is (TheFindings bounds table trace)) (findings_status (has_fault bounds table trace))
+      (replies call (status_of outcome) _ (TheFindings bounds table trace) _ tt refl
+      (trace_answers texts (Diagnose bounds) (codes "diagnose") (h.delay ∷ h.jitter ∷ h.clocks ∷ []) call outcome table trace
+      (diagnose_form bounds table trace call h) (written_findings (has_fault bounds table trace)) acts h.traced)),
+  tells laws call bounds table trace h,
+)

@@ -15,7 +15,7 @@ use Rattle.bus_command.proofs.ClaimLemmas.{claimed, does_of, at_one, at_two, sta
 use Rattle.bus_command.proofs.LawTypes.{TextReadsAsItsTable, TextReadsAsItsItems}
 use Rattle.bus_command.proofs.ReadLemmas.{held_trace, inputs_told, traced_told}
 use Rattle.bus_command.proofs.ToldLemmas.{table_told, items_told}
-use Rattle.bus_command.specs.Stages.{StandsFor}
+use Rattle.bus_command.specs.Stages.{MayReplace}
 use Rattle.bus_tool.specs.Acts.{tool_program, Acts}
 use Rattle.bus_tool.specs.inside.Acting.{IsOfMode}
 use Rattle.bus_tool.specs.Due.{table_for, refusal_for, table_answer, messages_answer, inputs_answer, trace_answer, traced_answer}
@@ -102,7 +102,7 @@ trace_comes laws command word call outcome table trace words answer_is acts h =
 -- what stands for its answer
 pub trace_stands : ReadLaws → (command : TraceCommand) (word : List ℕ) (call : Call) (outcome : Outcome) (table : Table) (trace : Recording)
     → ((a b : List ℕ) → form_of (word ∷ a ∷ b ∷ []) ≡ Some (OnTrace command)) → Acts call outcome → IsOfTraced word [] table trace call
-    → StandsFor (trace_answer command table trace) outcome
+    → MayReplace (trace_answer command table trace) outcome
 trace_stands laws command word call outcome table trace words acts h =
     stands_told (traced_answer command) (two_sources entire Trace) traced_due h.table_told.text h.trace_told.stream (with_trace table trace)
     call.before.sources outcome (at_two entire Trace call.before.sources h.table_told.text h.trace_told.stream h.table_told.told h.trace_told.told)

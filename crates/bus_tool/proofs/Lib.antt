@@ -21,6 +21,7 @@ pub mod CauseLemmas
 pub mod AnswerLemmas
 pub mod TextLawLemmas
 pub mod GroupClaims
+pub mod ReplyLemmas
 pub mod CheckClaim
 pub mod PlanClaim
 mod CablePlanClaim

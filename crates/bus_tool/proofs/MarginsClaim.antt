@@ -4,18 +4,23 @@ use Rattle.std.proofs.Common.{arith, ap, ◌∙◌, cond}
 use Rattle.std.proofs.lemmas.Bool.Decides.{nat_tests}
 use Rattle.bus_text.specs.Numbers.{IsDecimal, decimal_value}
 use Rattle.bus_bounds.specs.Bounds.{Bounds, AreBounds, most_delay, most_jitter, most_clocks}
+use Rattle.bus_table.specs.declared.mode.Mode.TheVariants.{Aperiodic, Periodic}
 use Rattle.bus_table.specs.Tables.{Table}
 use Rattle.bus_regime.specs.Verdicts.{verdict_of}
 use Rattle.bus_margins.specs.Laws.{IsAperiodic, AnySettles, LevelKeepsOrder, ApartIsARound}
 use Rattle.bus_margins_periodic.specs.Laws.{IsAsked}
 use Rattle.bus_command.specs.Outside.{Call}
 use Rattle.bus_tool.specs.Acts.{Acts}
+use Rattle.bus_tool.specs.Answering.{Answers, IsTextOf}
+use Rattle.bus_tool.specs.Asking.{IsMarginsOf}
 use Rattle.bus_tool.specs.Forms.{Form, OnTable, Margins, form_of, is_within, are_bounds, bounds_of}
-use Rattle.bus_tool.specs.MarginsClaims.{IsMarginsOf, GivesMargins, TellsMargins}
+use Rattle.bus_tool.specs.MarginsClaims.{TellsMargins, TellsTurns, has_margins, margins_reply}
 use Rattle.bus_tool.specs.MarginsTexts.{margins_answer}
 use Rattle.bus_tool.specs.Refusals.{Outcome, status_of}
+use Rattle.bus_tool.specs.Replies.{Is, yes_or_no}
 use Rattle.bus_tool.proofs.BorneLemmas.{TurnsLaws, told_bears, tells_turns}
 use Rattle.bus_tool.proofs.GroupClaims.{ReadLaws, table_answers}
+use Rattle.bus_tool.proofs.ReplyLemmas.{is_text, margins_same, margins_stands, margins_status, with_status}
 
 -- the laws by which it holds
 pub record MarginsLaws : Type 0 where
@@ -32,18 +37,18 @@ within_is limit n word d low =
 
 bounds_are : (bounds : Bounds) (table : Table) (call : Call) (h : IsMarginsOf bounds table call) → are_bounds h.delay h.jitter h.clocks ≡ true
 bounds_are bounds table call h =
-    ap (λ b. b && (is_within most_jitter h.jitter && is_within most_clocks h.clocks)) (within_is most_delay bounds.delay h.delay h.delay_is h.within.delay)
-    ∙ ap (λ b. b && is_within most_clocks h.clocks) (within_is most_jitter bounds.jitter h.jitter h.jitter_is h.within.jitter)
-    ∙ within_is most_clocks bounds.clocks h.clocks h.clocks_is h.within.clocks
+    ap (λ b. b && (is_within most_jitter h.jitter && is_within most_clocks h.clocks)) (within_is most_delay bounds.delay h.delay h.words_are.delay_is h.within.delay)
+    ∙ ap (λ b. b && is_within most_clocks h.clocks) (within_is most_jitter bounds.jitter h.jitter h.words_are.jitter_is h.within.jitter)
+    ∙ within_is most_clocks bounds.clocks h.clocks h.words_are.clocks_is h.within.clocks
 
 abbrev pub bounds_with : ℕ → ℕ → ℕ → Bounds
 bounds_with delay jitter clocks = record { delay = delay; jitter = jitter; clocks = clocks }
 
 same_bounds : (bounds : Bounds) (table : Table) (call : Call) (h : IsMarginsOf bounds table call) → bounds_of h.delay h.jitter h.clocks ≡ bounds
 same_bounds bounds table call h =
-    ap (λ n. bounds_with n (decimal_value h.jitter) (decimal_value h.clocks)) h.delay_is.value
-    ∙ ap (λ n. bounds_with bounds.delay n (decimal_value h.clocks)) h.jitter_is.value
-    ∙ ap (bounds_with bounds.delay bounds.jitter) h.clocks_is.value
+    ap (λ n. bounds_with n (decimal_value h.jitter) (decimal_value h.clocks)) h.words_are.delay_is.value
+    ∙ ap (λ n. bounds_with bounds.delay n (decimal_value h.clocks)) h.words_are.jitter_is.value
+    ∙ ap (bounds_with bounds.delay bounds.jitter) h.words_are.clocks_is.value
 
 margins_form : (bounds : Bounds) (table : Table) (call : Call) → IsMarginsOf bounds table call → form_of call.words ≡ Some (OnTable (Margins bounds))
 margins_form bounds table call h =
@@ -63,13 +68,17 @@ tells_margins laws bounds table within asked = record {
 }
 
 pub margins_claim : ReadLaws → MarginsLaws → (call : Call) (outcome : Outcome) (bounds : Bounds) (table : Table) → Acts call outcome
-    → IsMarginsOf bounds table call → GivesMargins bounds table call (status_of outcome)
+    → IsMarginsOf bounds table call
+    → Answers call (status_of outcome) (yes_or_no (has_margins (verdict_of table) bounds table)) (Is (margins_reply (verdict_of table) bounds table))
+    × (table.mode ≡ Aperiodic → TellsMargins bounds table) × (table.mode ≡ Periodic → TellsTurns bounds table)
 margins_claim texts laws call outcome bounds table acts h =
-    record {
-      gives = table_answers texts (Margins bounds) call outcome table (λ text. text ≡ margins_answer (verdict_of table) bounds table)
-          (margins_form bounds table call h) tt (λ text is. is) acts h.table_told h.undisturbed;
-      tells = λ mode. tells_margins laws bounds table h.within (record { valid = h.table_told.valid; mode = mode });
-      turns = λ mode.
+    let reply = margins_reply (verdict_of table) bounds table in (
+      with_status call (status_of outcome) _ _ (Is reply) (margins_status (verdict_of table) bounds table)
+          (table_answers texts (Margins bounds) call outcome table (IsTextOf (Is reply)) (margins_form bounds table call h) tt
+          (λ text is. is_text reply (margins_answer (verdict_of table) bounds table) text (margins_stands (verdict_of table) bounds table)
+          (margins_same (verdict_of table) bounds table) is) acts h.table_told h.undisturbed),
+      (λ mode. tells_margins laws bounds table h.within (record { valid = h.table_told.valid; mode = mode })),
+      (λ mode.
           let asked : IsAsked bounds table = record { range = h.within; valid = h.table_told.valid; mode = mode } in
-          tells_turns laws.turns bounds table asked;
-    }
+          tells_turns laws.turns bounds table asked),
+    )

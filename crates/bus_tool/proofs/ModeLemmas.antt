@@ -17,9 +17,8 @@ use Rattle.bus_command.specs.Steps.{Same, Takes}
 use Rattle.bus_command.proofs.ReadLemmas.{CauseLaws, bind_err, table_cause, table_stops, table_valid, stop_unwritten}
 use Rattle.bus_command.proofs.TakeLemmas.{takes_then, takes_none}
 use Rattle.bus_tool.specs.inside.Acting.{IsOfMode}
-use Rattle.bus_tool.specs.Causes.{Cause}
+use Rattle.bus_tool.specs.Causes.{Cause, EndIs}
 use Rattle.bus_tool.specs.Due.{is_mode, mode_or_refusal, needed_or_refusal, table_for}
-use Rattle.bus_tool.specs.Forms.{Form}
 use Rattle.bus_tool.specs.Refusals.{Outcome, ToolRefusal, refuse, TableMode}
 
 same_mode : (needed mode : Mode) → is_mode needed mode ≡ true → mode ≡ needed
@@ -116,19 +115,19 @@ refused_mode : (needed : Mode) (table : Table) (o : Outcome) (b : _) → is_mode
 refused_mode needed table o true is h = absurd cc
 refused_mode needed table o false is h = (other_mode needed table.mode is, let e : refuse (TableMode needed) ≡ o = cc in sym e)
 
-needed_cause : CauseLaws → (form : Form) (mode : Option Mode) (first second : List ℕ) (table : Table) (o : Outcome)
-    → table_due {R = ToolRefusal} first ≡ Ok table → needed_or_refusal mode table ≡ Err o → RefusesTexts (Cause form) o first second
-needed_cause laws form None first second table o h k = absurd cc
-needed_cause laws form (Some needed) first second table o h k =
+needed_cause : CauseLaws → (IsEnd : EndIs) (mode : Option Mode) (first second : List ℕ) (table : Table) (o : Outcome)
+    → table_due {R = ToolRefusal} first ≡ Ok table → needed_or_refusal mode table ≡ Err o → RefusesTexts (Cause IsEnd) o first second
+needed_cause laws IsEnd None first second table o h k = absurd cc
+needed_cause laws IsEnd (Some needed) first second table o h k =
     let w = refused_mode needed table o (is_mode needed table.mode) refl k in
-    subst (λ o. RefusesTexts (Cause form) o first second) (sym w.1)
+    subst (λ o. RefusesTexts (Cause IsEnd) o first second) (sym w.1)
     (record { table = table; table_is = table_valid {R = ToolRefusal} laws first table h; why = w.0 })
 
-pub mode_cause : CauseLaws → (form : Form) (mode : Option Mode) (first second : List ℕ) (o : Outcome) → table_for mode first ≡ Err o
-    → RefusesTexts (Cause form) o first second
-mode_cause laws form mode first second o h = elim (bind_err (table_due {R = ToolRefusal} first) (needed_or_refusal mode) o h) [
-  | inl e ↦ table_cause laws (Cause form) first second o e
-  | inr w ↦ needed_cause laws form mode first second w.0 o w.1 w.2
+pub mode_cause : CauseLaws → (IsEnd : EndIs) (mode : Option Mode) (first second : List ℕ) (o : Outcome) → table_for mode first ≡ Err o
+    → RefusesTexts (Cause IsEnd) o first second
+mode_cause laws IsEnd mode first second o h = elim (bind_err (table_due {R = ToolRefusal} first) (needed_or_refusal mode) o h) [
+  | inl e ↦ table_cause laws (Cause IsEnd) first second o e
+  | inr w ↦ needed_cause laws IsEnd mode first second w.0 o w.1 w.2
 ]
 
 -- no refusal of it is an answer

@@ -16,10 +16,14 @@ use Rattle.bus_medium.specs.Timings.{quiet_of, stations_of}
 use Rattle.bus_command.specs.Claims.{TellsItems}
 use Rattle.bus_command.specs.Outside.{Seen, Call}
 use Rattle.bus_command.proofs.LawTypes.{FittingItemsGiveHands}
+use Rattle.bus_command.specs.declared.status.Status.TheVariants as status
 use Rattle.bus_tool.specs.Acts.{Acts}
+use Rattle.bus_tool.specs.Answering.{Answers, IsTextOf}
+use Rattle.bus_tool.specs.Asking.{IsObserveOf}
 use Rattle.bus_tool.specs.Forms.{OnMessages, Observe, four_words}
-use Rattle.bus_tool.specs.ObserveClaims.{IsObserveOf, IsTheTrace, GivesTrace}
+use Rattle.bus_tool.specs.ObserveClaims.{IsTheTrace}
 use Rattle.bus_tool.specs.Refusals.{Outcome, status_of}
+use Rattle.bus_tool.specs.Replies.{TheTrace}
 use Rattle.bus_tool.specs.Texts.{IsObserveText}
 use Rattle.bus_tool.proofs.EntryLemmas.{observed_recording}
 use Rattle.bus_tool.proofs.GroupClaims.{ReadLaws, messages_comes}
@@ -44,19 +48,24 @@ only_list give one_list table items horizon list other valid fit h k =
 
 trace_of : FittingItemsGiveHands → OneListOfATable → (table : Table) (items : List Item) (seen : Seen) (horizon : ℕ) (text : List ℕ) → IsTrue (is_valid table)
     → TellsItems table items seen → horizon ≤ horizon_limit → IsObserveText horizon table (hands_of table items) text
-    → IsTheTrace table (hands_of table items) horizon text
+    → IsTextOf (IsTheTrace table (hands_of table items) horizon) text
 trace_of give one_list table items seen horizon text valid told within h = record {
-  recording = h.recording;
-  trace = observed_recording table items told.text horizon h.recording valid (give table items valid (subst IsOk (sym told.fit) refl)) told.stands told.short within h.observed;
-  observed = h.observed;
-  only = λ other k. only_list give one_list table items horizon h.recording.list other valid told.fit h.observed.lawful k;
+  reply = TheTrace h.recording;
+  is = record {
+    trace = h.recording;
+    observed = h.observed;
+    only = λ other k. only_list give one_list table items horizon h.recording.list other valid told.fit h.observed.lawful k;
+    reply_is = refl;
+  };
+  stands = observed_recording table items told.text horizon h.recording valid (give table items valid (subst IsOk (sym told.fit) refl)) told.stands told.short within h.observed;
   text_is = h.text_is;
 }
 
 pub observe_claim : ReadLaws → FittingItemsGiveHands → OneListOfATable → (call : Call) (outcome : Outcome) (table : Table) (items : List Item) (horizon : ℕ)
-    → Acts call outcome → IsObserveOf table items horizon call → GivesTrace table items horizon call (status_of outcome)
+    → Acts call outcome → IsObserveOf table items horizon call
+    → Answers call (status_of outcome) status.Done (IsTheTrace table (hands_of table items) horizon)
 observe_claim laws give one_list call outcome table items horizon acts h =
-    messages_comes laws (Observe horizon) (codes "observe") (h.number ∷ []) call outcome table items (IsTheTrace table (hands_of table items) horizon)
+    messages_comes laws (Observe horizon) (codes "observe") (h.number ∷ []) call outcome table items (IsTextOf (IsTheTrace table (hands_of table items) horizon))
     (λ a b. horizon_form h.number horizon h.spelled h.within) tt refl
     (λ text is. trace_of give one_list table items call.before.sources.second horizon text h.call_is.table_told.valid h.call_is.items_told h.within is)
     acts h.call_is

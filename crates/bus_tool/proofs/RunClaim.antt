@@ -14,21 +14,34 @@ use Rattle.bus_schedule.specs.declared.uneven.Uneven.{Uneven as UnevenHands}
 use Rattle.bus_schedule.specs.Closed.{closed_end}
 use Rattle.bus_schedule.specs.Even.{rounds, are_even}
 use Rattle.bus_schedule.specs.Laws.{EvenHandsAgree}
+use Rattle.bus_schedule.specs.Limits.{longest_end}
 use Rattle.bus_schedule.specs.Uneven.{uneven_of}
 use Rattle.bus_command.specs.Kinds.{kind_of}
 use Rattle.bus_command.specs.Due.{outcome_with}
 use Rattle.bus_command.specs.Outside.{Call}
 use Rattle.bus_command.proofs.LawTypes.{FittingItemsGiveHands}
+use Rattle.bus_command.specs.Claims.{IsOfItems}
+use Rattle.bus_command.specs.declared.status.Status.TheVariants as status
 use Rattle.bus_tool.specs.Acts.{Acts}
+use Rattle.bus_tool.specs.Answering.{Answers, IsTextOf}
 use Rattle.bus_tool.specs.Due.{even_due, accepted_due, may_run, can_run}
 use Rattle.bus_tool.specs.Forms.{Run}
 use Rattle.bus_tool.specs.Refusals.{Outcome, status_of, refuse, NotAccepted}
-use Rattle.bus_tool.specs.RunClaims.{AreEvenItems, IsRunOf, IsTheRun, GivesRun}
+use Rattle.bus_tool.specs.Replies.{TheRun, receipts_of}
+use Rattle.bus_tool.specs.RunClaims.{AreEvenItems, IsTheRun}
 use Rattle.bus_tool.specs.Texts.{IsObserved, IsMessagesAnswerText}
 use Rattle.bus_tool.proofs.AnswerLaws.{done_with}
 use Rattle.bus_tool.proofs.EntryLemmas.{observed_recording}
 use Rattle.bus_tool.proofs.GroupClaims.{ReadLaws, messages_comes}
+use Rattle.bus_tool.proofs.ReplyLemmas.{run_same}
 use Rattle.bus_tool.proofs.RunLemmas.{can_be_run}
+
+-- a call of `run` whose items are as many for each sender of an accepted table, and whose closed end is within its limit
+record IsRunOf (table : Table) (items : List Item) (call : Call) : Type 0 where
+  call_is : IsOfItems (codes "run") [] table items call
+  accepted : IsTrue (is_accepted (verdict_of table))
+  even : AreEvenItems table items
+  short : closed_end table (hands_of table items) ≤ longest_end
 
 -- ---- as many items are as many messages
 length_map : (f : Item → Message) → (items : List Item) → length (map f items) ≡ length items
@@ -71,18 +84,26 @@ is_run give agree table items call h =
 
 -- ---- the claim
 the_run : FittingItemsGiveHands → (table : Table) (items : List Item) (call : Call) (text : List ℕ) → IsRunOf table items call
-    → IsMessagesAnswerText Run table (hands_of table items) text → IsTheRun table (hands_of table items) text
+    → IsMessagesAnswerText Run table (hands_of table items) text → IsTextOf (IsTheRun table (hands_of table items)) text
 the_run give table items call text told h =
     let dealt = give table items told.call_is.table_told.valid (subst IsOk (sym told.call_is.items_told.fit) refl) in
     let observed : IsObserved table (hands_of table items) (closed_end table (hands_of table items)) h.recording = record { horizon = h.ran.horizon; holds = h.ran.holds; lawful = h.ran.run.lawful } in
     let within : closed_end table (hands_of table items) ≤ horizon_limit = omega (arith, told.short) in
     let trace = observed_recording table items told.call_is.items_told.text (closed_end table (hands_of table items)) h.recording told.call_is.table_told.valid dealt told.call_is.items_told.stands told.call_is.items_told.short within observed in
-    record { recording = h.recording; trace = trace; ran = h.ran; text_is = h.text_is }
+    record {
+      reply = TheRun h.recording (receipts_of table h.recording.list);
+      is = record { trace = h.recording; ran = h.ran; reply_is = refl };
+      stands = trace;
+      text_is = h.text_is ∙ run_same table h.recording;
+    }
 
 pub run_claim : ReadLaws → FittingItemsGiveHands → EvenHandsAgree → (call : Call) (outcome : Outcome) (table : Table) (items : List Item) → Acts call outcome
-    → IsRunOf table items call → GivesRun table items call (status_of outcome)
-run_claim laws give agree call outcome table items acts h =
+    → IsOfItems (codes "run") [] table items call → IsTrue (is_accepted (verdict_of table)) → AreEvenItems table items
+    → closed_end table (hands_of table items) ≤ longest_end
+    → Answers call (status_of outcome) status.Done (IsTheRun table (hands_of table items))
+run_claim laws give agree call outcome table items acts call_is accepted even short =
+    let h : IsRunOf table items call = record { call_is = call_is; accepted = accepted; even = even; short = short } in
     let can = is_run give agree table items call h in
-    subst (λ o. Rattle.bus_command.specs.Claims.Answers (status_of o) (IsTheRun table (hands_of table items)) call (status_of outcome)) (ap (outcome_with done_with) can)
-    (messages_comes laws Run (codes "run") [] call outcome table items (IsTheRun table (hands_of table items)) (λ a b. refl) tt
+    subst (λ o. Answers call (status_of outcome) (status_of o) (IsTheRun table (hands_of table items))) (ap (outcome_with done_with) can)
+    (messages_comes laws Run (codes "run") [] call outcome table items (IsTextOf (IsTheRun table (hands_of table items))) (λ a b. refl) tt
     (ap (λ r. kind_of (outcome_with done_with r)) can) (λ text is. the_run give table items call text h is) acts h.call_is)

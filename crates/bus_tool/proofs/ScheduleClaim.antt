@@ -1,11 +1,10 @@
 -- What is claimed of `schedule`.
-use Rattle.std.specs.Prelude.{◌≡◌, ℕ, zero, suc, ◌+◌, ◌-◌, ◌*◌, ◌<◌, ◌≤◌, true, ◌==◌, IsTrue, IsOk, List, [], codes, length, slice_get, Some, Ok}
-use Rattle.std.specs.List.{list_all, AllByRecursion}
+use Rattle.std.specs.Prelude.{◌≡◌, ℕ, zero, suc, ◌+◌, ◌-◌, ◌*◌, ◌<◌, ◌≤◌, ◌==◌, IsTrue, IsOk, List, [], codes, length, slice_get, Some, Ok}
+use Rattle.std.specs.List.{list_all}
 use Rattle.std.proofs.Common.{arith, refl, sym, ap, ◌∙◌, subst, inl, inr}
 use Rattle.std.proofs.lemmas.Bool.{and_parts, cases_lt}
 use Rattle.std.proofs.lemmas.Option.{slice_get_within}
 use Rattle.bus_strings.specs.Items.{Item}
-use Rattle.bus_strings.specs.Limits.{horizon_limit}
 use Rattle.bus_strings.specs.Members.{In}
 use Rattle.bus_strings.specs.Messages.{Entry}
 use Rattle.bus_strings.specs.Transmissions.{IsTransmission}
@@ -20,30 +19,40 @@ use Rattle.bus_table.proofs.ValidLaws.{valid_facts}
 use Rattle.bus_schedule.specs.Closed.{closed, closed_end}
 use Rattle.bus_schedule.specs.Even.{messages_of, rounds, are_even}
 use Rattle.bus_schedule.specs.Laws.{AcceptedIsClosed, ClosedIsOrderly, IsOrderly, EvenHandsAgree}
+use Rattle.bus_schedule.specs.Limits.{longest_end}
 use Rattle.bus_schedule.specs.Uneven.{uneven_of}
 use Rattle.bus_schedule.proofs.EvenLemmas.{EvenHandAt, even_hand_at, sender_at}
 use Rattle.bus_schedule.proofs.HandLemmas.{own_fit}
-use Rattle.bus_trace.specs.Traces.{IsTrace}
 use Rattle.bus_hands.specs.Holds.{hand_holds}
-use Rattle.bus_command.specs.Claims.{Answers}
+use Rattle.bus_command.specs.Claims.{IsOfItems}
 use Rattle.bus_command.specs.Due.{outcome_with}
 use Rattle.bus_command.specs.Kinds.{kind_of}
 use Rattle.bus_command.specs.Outside.{Call}
-use Rattle.bus_command.specs.Readers.{text_limit}
 use Rattle.bus_command.proofs.FewHands.{hands_few}
 use Rattle.bus_command.proofs.LawTypes.{FittingItemsGiveHands}
 use Rattle.bus_text.specs.Lines.{entries_of}
+use Rattle.bus_command.specs.declared.status.Status.TheVariants as status
 use Rattle.bus_tool.specs.Acts.{Acts}
+use Rattle.bus_tool.specs.Answering.{Answers, IsTextOf}
 use Rattle.bus_tool.specs.Due.{even_due, can_schedule}
 use Rattle.bus_tool.specs.Forms.{Schedule}
 use Rattle.bus_tool.specs.Refusals.{Outcome, status_of}
-use Rattle.bus_tool.specs.ScheduleClaims.{IsScheduleOf, IsScheduled, GivesSchedule}
-use Rattle.bus_tool.specs.Texts.{IsMessagesAnswerText, scheduled}
+use Rattle.bus_tool.specs.Replies.{Is, TheTrace}
+use Rattle.bus_tool.specs.RunClaims.{AreEvenItems}
+use Rattle.bus_tool.specs.ScheduleClaims.{IsScheduled}
+use Rattle.bus_tool.specs.Texts.{scheduled}
 use Rattle.bus_tool.proofs.AnswerLaws.{done_with}
 use Rattle.bus_tool.proofs.EntryLemmas.{IsOfHand, of_hand, few_items, message_items}
 use Rattle.bus_tool.proofs.GroupClaims.{ReadLaws, messages_comes}
+use Rattle.bus_tool.proofs.ReplyLemmas.{is_text}
 use Rattle.bus_tool.proofs.RunClaim.{even_hands, none_is}
 use Rattle.bus_tool.proofs.ScheduleLemmas.{can_be_scheduled, schedule_is_trace}
+
+-- a call of `schedule` whose items are as many for each sender, and whose closed end is within its limit
+record IsScheduleOf (table : Table) (items : List Item) (call : Call) : Type 0 where
+  call_is : IsOfItems (codes "schedule") [] table items call
+  even : AreEvenItems table items
+  short : closed_end table (hands_of table items) ≤ longest_end
 
 -- the laws by which it is
 pub record ScheduleLaws : Type 0 where
@@ -133,12 +142,15 @@ is_scheduled laws table items call h =
     }
 
 pub schedule_claim : ReadLaws → ScheduleLaws → (call : Call) (outcome : Outcome) (table : Table) (items : List Item) → Acts call outcome
-    → IsScheduleOf table items call → GivesSchedule table items call (status_of outcome)
-schedule_claim texts laws call outcome table items acts h =
+    → IsOfItems (codes "schedule") [] table items call → AreEvenItems table items → closed_end table (hands_of table items) ≤ longest_end
+    → Answers call (status_of outcome) status.Done (Is (TheTrace (scheduled table (hands_of table items)))) × IsScheduled table (hands_of table items)
+schedule_claim texts laws call outcome table items acts call_is even short =
+    let h : IsScheduleOf table items call = record { call_is = call_is; even = even; short = short } in
     let is = can laws table items call h in
-    record {
-      gives = subst (λ o. Answers (status_of o) (IsMessagesAnswerText Schedule table (hands_of table items)) call (status_of outcome)) (ap (outcome_with done_with) is)
-          (messages_comes texts Schedule (codes "schedule") [] call outcome table items (IsMessagesAnswerText Schedule table (hands_of table items)) (λ a b. refl) tt
-          (ap (λ r. kind_of (outcome_with done_with r)) is) (λ text is. is) acts h.call_is);
-      tells = is_scheduled laws table items call h;
-    }
+    let tells = is_scheduled laws table items call h in
+    let reply = TheTrace (scheduled table (hands_of table items)) in (
+      subst (λ o. Answers call (status_of outcome) (status_of o) (Is reply)) (ap (outcome_with done_with) is)
+          (messages_comes texts Schedule (codes "schedule") [] call outcome table items (IsTextOf (Is reply)) (λ a b. refl) tt
+          (ap (λ r. kind_of (outcome_with done_with r)) is) (λ text is. is_text reply _ text tells.trace refl is) acts h.call_is),
+      tells,
+    )

@@ -30,7 +30,8 @@ use Rattle.bus_command.specs.declared.inputs.Traced.{Traced}
 use Rattle.bus_command.proofs.LawTypes.{ReadsATable, FittingItemsGiveHands}
 use Rattle.bus_command.proofs.ReadLemmas.{table_read, table_stops, items_read, items_stop, inputs_read, inputs_stop, trace_stops, traced_stop, stop_unwritten}
 use Rattle.bus_tool.specs.inside.Acting.{IsOfMode}
-use Rattle.bus_tool.specs.Due.{table_for, can_run, can_drop, unwave_due, wave_trace_due, table_answer, inputs_answer, traced_answer, unwave_answer, explain_answer, form_due, outcome_for}
+use Rattle.bus_tool.specs.Due.{table_for, can_run, can_drop, unwave_due, wave_trace_due, table_answer, inputs_answer, traced_answer, unwave_answer, explain_answer}
+use Rattle.bus_tool.specs.Commands.{command_of, outcome_for, IsTextFor}
 use Rattle.bus_tool.specs.Drills.{drill_line}
 use Rattle.bus_tool.specs.Explanations.{explanation}
 use Rattle.bus_tool.specs.Itself.{itself_text}
@@ -42,7 +43,7 @@ use Rattle.bus_tool.specs.Forms.{Form, OnTable, OnMessages, OnTrace, Unwave, Dri
 use Rattle.bus_tool.specs.Refusals.{Outcome, ToolRefusal}
 use Rattle.bus_hands.specs.Holds.{hand_holds}
 use Rattle.bus_tool.specs.Texts.{IsObserved, IsRunRecording, IsDropRecording, IsInputsText, IsTableAnswerText, IsTracedText, IsUnwavedText, IsExplanation, AreFacts}
-use Rattle.bus_tool.specs.Texts.{table_answer_text, trace_answer_text, run_text, scheduled, IsFormText, IsTextFor}
+use Rattle.bus_tool.specs.Texts.{table_answer_text, trace_answer_text, run_text, scheduled}
 use Rattle.bus_tool.specs.TextLaws.{OneCommandText, AnswersHaveTexts}
 use Rattle.bus_tool.proofs.AnswerLaws.{done_with}
 use Rattle.bus_tool.proofs.ModeLemmas.{mode_read, mode_unwritten}
@@ -156,7 +157,7 @@ cable_has laws horizon inputs d =
 same_value : {Y : Type 0} (due : Result Y Outcome) (x y : Y) → due ≡ Ok x → due ≡ Ok y → y ≡ x
 same_value due x y h k = cc
 
-form_once : TextLaws → (form : Form) (first second text other : List ℕ) → IsFormText form first second text → IsFormText form first second other → other ≡ text
+form_once : TextLaws → (form : Form) (first second text other : List ℕ) → (command_of form).IsText first second text → (command_of form).IsText first second other → other ≡ text
 form_once laws (OnTable command) first second text other h k =
     k.3 ∙ ap (table_answer_text command) (same_value (table_for (table_mode command) first) h.0 k.0 h.1 k.1) ∙ sym h.3
 form_once laws (OnMessages command) first second text other h k =
@@ -236,7 +237,7 @@ traced_unwritten made stops first second o h = elim (traced_stop made first seco
   | inr w ↦ stop_unwritten 2 (kind_of o) (stops w.0 second o w.2)
 ]
 
-form_has : TextLaws → (form : Form) (first second : List ℕ) → is_written (form_due form first second) ≡ true → (text : List ℕ) × IsFormText form first second text
+form_has : TextLaws → (form : Form) (first second : List ℕ) → is_written ((command_of form).due first second) ≡ true → (text : List ℕ) × (command_of form).IsText first second text
 form_has laws (OnTable command) first second h =
     text_with (table_answer command) (IsTableAnswerText command) (table_for (table_mode command) first) (λ o e. mode_unwritten (table_mode command) first o e)
     (λ table e k. (table_answer_text command table, refl)) h

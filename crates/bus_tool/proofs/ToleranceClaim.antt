@@ -20,8 +20,10 @@ use Rattle.bus_reach.specs.Laws.{BorneIsClosed, ToleranceIsExact}
 use Rattle.bus_reach.specs.PeriodicLaws.{AcceptedBearZero, PeriodicBorneIsClosed, PeriodicNotBorneBreaks}
 use Rattle.bus_reach.specs.Settling.{AnyStartSettles}
 use Rattle.bus_exact.specs.Settling.{AnyStartSettlesOnCable}
-use Rattle.bus_tool.specs.ToleranceClaims.{EndsIn, IsToleranceOf, KeepsOrderIn, LosesOrderIn, SettlesFromAnyStart, SettlesOnCable, StartsItself, TellsStart, TellsTolerance}
+use Rattle.bus_tool.specs.Answering.{reply_text}
+use Rattle.bus_tool.specs.ToleranceClaims.{EndsIn, KeepsOrderIn, LosesOrderIn, SettlesFromAnyStart, SettlesOnCable, StartsItself, TellsStart, TellsTolerance, tolerance_reply}
 use Rattle.bus_tool.specs.Tolerances.{greatest_to, most_apart, starts_in, tolerance_fields, tolerance_line, tolerance_of, tolerance_text, tolerance_word}
+use Rattle.bus_tool.proofs.ReplyLemmas.{tolerance_same}
 use Rattle.bus_tool.proofs.ToleranceLemmas.{borne_below, greatest_beyond, greatest_takes}
 
 -- the laws by which it does
@@ -111,11 +113,8 @@ start_in table (ShortCycle least ti) accepted = absurd (true≢false (sym accept
 start_in table (SmallGap terminal gap needed) accepted = absurd (true≢false (sym accepted))
 start_in table (NoSync terminal gap needed) accepted = absurd (true≢false (sym accepted))
 
-pub tolerance_is : (table : Table) (text : List ℕ) → text ≡ tolerance_text (verdict_of table) table → IsToleranceOf table text
-tolerance_is table text is = record {
-  is = is;
-  start = λ accepted. subst (TellsStart table) (sym is) (start_in table (verdict_of table) accepted);
-}
+pub start_told : (table : Table) → IsTrue (is_accepted (verdict_of table)) → TellsStart table (reply_text (tolerance_reply (verdict_of table) table))
+start_told table accepted = subst (TellsStart table) (tolerance_same (verdict_of table) table) (start_in table (verdict_of table) accepted)
 
 -- a sender alone bears every delay
 alone_bears : (mode : Mode) (table : Table) (d : ℕ) → (length table.senders == 1) ≡ true → bears_in mode table d ≡ true
@@ -147,6 +146,7 @@ tells laws table valid accepted = record {
     | inl one ↦ keeps_in laws table.mode table d refl valid accepted (alone_bears table.mode table d one)
     | inr one ↦ absurd (let some : Some (greatest_to (bears table) (2 * table.ti)) ≡ None = sym (ap (number_at table) one) ∙ h in cc)
   ];
+  told = starts_by table.mode table refl;
   start = λ h. starts_from laws table valid h;
   cable = λ d starts borne. starts_on_cable laws table d valid starts borne;
 }

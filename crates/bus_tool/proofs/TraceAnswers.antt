@@ -14,9 +14,9 @@ use Rattle.bus_command.specs.Kinds.{kind_of, stage_of}
 use Rattle.bus_command.specs.declared.inputs.Traced.{Traced}
 use Rattle.bus_command.proofs.ReadLemmas.{CauseLaws, table_valid, read_trace, traced_read}
 use Rattle.bus_findings.specs.Terminals.{has_fault}
-use Rattle.bus_tool.specs.Causes.{Cause}
+use Rattle.bus_tool.specs.Causes.{Cause, EndIs, IsNoEnd}
 use Rattle.bus_tool.specs.Due.{audit_outcome, findings_outcome, spaced_outcome, trace_answer, traced_answer}
-use Rattle.bus_tool.specs.Forms.{Form, OnTrace, TraceCommand, Receive, Audit, Vote, Wave, Diagnose}
+use Rattle.bus_tool.specs.Forms.{TraceCommand, Receive, Audit, Vote, Wave, Diagnose}
 use Rattle.bus_tool.specs.Refusals.{ToolRefusal}
 use Rattle.bus_tool.proofs.AnswerLaws.{answer_late, written_audit, written_findings}
 
@@ -33,18 +33,18 @@ trace_late Wave table trace = spaced_late (spaced_of table trace)
 trace_late (Diagnose bounds) table trace = answer_late (findings_outcome (has_fault bounds table trace)) (written_findings (has_fault bounds table trace))
 
 -- ---- for which cause
-audit_cause : (form : Form) (first second : List ℕ) (answer : AuditAnswer) → RefusesTexts (Cause form) (audit_outcome answer) first second
-audit_cause form first second (Lawful collided) = tt
-audit_cause form first second (Breach moment terminal kind) = tt
+audit_cause : (IsEnd : EndIs) (first second : List ℕ) (answer : AuditAnswer) → RefusesTexts (Cause IsEnd) (audit_outcome answer) first second
+audit_cause IsEnd first second (Lawful collided) = tt
+audit_cause IsEnd first second (Breach moment terminal kind) = tt
 
-findings_cause : (form : Form) (first second : List ℕ) (fault : Bool) → RefusesTexts (Cause form) (findings_outcome fault) first second
-findings_cause form first second true = tt
-findings_cause form first second false = tt
+findings_cause : (IsEnd : EndIs) (first second : List ℕ) (fault : Bool) → RefusesTexts (Cause IsEnd) (findings_outcome fault) first second
+findings_cause IsEnd first second true = tt
+findings_cause IsEnd first second false = tt
 
-spaced_cause : CauseLaws → (form : Form) (first second : List ℕ) (traced : Traced) (r : Result (Unit {0}) WaveFault)
-    → traced_due {R = ToolRefusal} first second ≡ Ok traced → spaced_of traced.table traced.trace ≡ r → RefusesTexts (Cause form) (spaced_outcome r) first second
-spaced_cause laws form first second traced (Ok u) h e = tt
-spaced_cause laws form first second traced (Err fault) h e =
+spaced_cause : CauseLaws → (IsEnd : EndIs) (first second : List ℕ) (traced : Traced) (r : Result (Unit {0}) WaveFault)
+    → traced_due {R = ToolRefusal} first second ≡ Ok traced → spaced_of traced.table traced.trace ≡ r → RefusesTexts (Cause IsEnd) (spaced_outcome r) first second
+spaced_cause laws IsEnd first second traced (Ok u) h e = tt
+spaced_cause laws IsEnd first second traced (Err fault) h e =
     let read = traced_read {R = ToolRefusal} any_trace first second traced h in
     record {
       table = traced.table;
@@ -55,9 +55,9 @@ spaced_cause laws form first second traced (Err fault) h e =
     }
 
 pub trace_answer_cause : CauseLaws → (command : TraceCommand) (first second : List ℕ) (traced : Traced) → traced_due {R = ToolRefusal} first second ≡ Ok traced
-    → RefusesTexts (Cause (OnTrace command)) (traced_answer command traced) first second
+    → RefusesTexts (Cause IsNoEnd) (traced_answer command traced) first second
 trace_answer_cause laws Receive first second traced h = tt
-trace_answer_cause laws Audit first second traced h = audit_cause (OnTrace Audit) first second (answer_of traced.table traced.trace)
+trace_answer_cause laws Audit first second traced h = audit_cause IsNoEnd first second (answer_of traced.table traced.trace)
 trace_answer_cause laws Vote first second traced h = tt
-trace_answer_cause laws Wave first second traced h = spaced_cause laws (OnTrace Wave) first second traced (spaced_of traced.table traced.trace) h refl
-trace_answer_cause laws (Diagnose bounds) first second traced h = findings_cause (OnTrace (Diagnose bounds)) first second (has_fault bounds traced.table traced.trace)
+trace_answer_cause laws Wave first second traced h = spaced_cause laws IsNoEnd first second traced (spaced_of traced.table traced.trace) h refl
+trace_answer_cause laws (Diagnose bounds) first second traced h = findings_cause IsNoEnd first second (has_fault bounds traced.table traced.trace)

@@ -23,10 +23,10 @@ use Rattle.bus_command.specs.Steps.{IsText, Same, StopsAt, Takes}
 use Rattle.bus_command.proofs.ReadLemmas.{refuse_text, stage_at}
 use Rattle.bus_command.proofs.TakeLemmas.{RefusesAt, takes_then, takes_none}
 use Rattle.bus_command.proofs.TextLemmas.{short_text}
-use Rattle.bus_tool.specs.Causes.{Cause}
+use Rattle.bus_tool.specs.Causes.{Cause, EndIs}
 use Rattle.bus_tool.specs.Due.{wave_or_refusal, wave_trace_due}
 use Rattle.bus_tool.specs.inside.Refused.{wave_refusal}
-use Rattle.bus_tool.specs.Forms.{Form, entire_wave, wave_limit}
+use Rattle.bus_tool.specs.Forms.{entire_wave, wave_limit}
 use Rattle.bus_tool.specs.Refusals.{Outcome, ToolRefusal, refuse, WaveText}
 
 -- ---- a wave
@@ -92,16 +92,16 @@ wave_told back table trace text valid is stands short =
     ∙ ap wave_or_refusal (back table trace text valid is stands)
 
 -- one that is refused has its cause
-reading_cause : WavesReadBack → (form : Form) (first second : List ℕ) (table : Table) (o : Outcome) (r : Result Recording WaveRefusal)
-    → IsValidText table first → wave_reading table second ≡ r → wave_or_refusal r ≡ Err o → RefusesTexts (Cause form) o first second
-reading_cause back form first second table o (Ok trace) valid e h = absurd cc
-reading_cause back form first second table o (Err refusal) valid e h =
+reading_cause : WavesReadBack → (IsEnd : EndIs) (first second : List ℕ) (table : Table) (o : Outcome) (r : Result Recording WaveRefusal)
+    → IsValidText table first → wave_reading table second ≡ r → wave_or_refusal r ≡ Err o → RefusesTexts (Cause IsEnd) o first second
+reading_cause back IsEnd first second table o (Ok trace) valid e h = absurd cc
+reading_cause back IsEnd first second table o (Err refusal) valid e h =
     let same : refuse (WaveText refusal.line refusal.reason) ≡ o = cc in
-    subst (λ (o : Outcome). RefusesTexts (Cause form) o first second) same
+    subst (λ (o : Outcome). RefusesTexts (Cause IsEnd) o first second) same
     (record { table = table; table_is = valid; none = λ trace is stands. (let k = back table trace second valid.valid is stands in cc) })
 
-pub wave_cause : WavesReadBack → (form : Form) (first second : List ℕ) (table : Table) (o : Outcome) → IsValidText table first
-    → wave_trace_due table second ≡ Err o → RefusesTexts (Cause form) o first second
-wave_cause back form first second table o valid h =
-    refuse_text (λ (o : Outcome). RefusesTexts (Cause form) o first second) wave_limit 2 second (λ whole. wave_or_refusal (wave_reading table whole)) o tt
-    (reading_cause back form first second table o (wave_reading table second) valid refl) h
+pub wave_cause : WavesReadBack → (IsEnd : EndIs) (first second : List ℕ) (table : Table) (o : Outcome) → IsValidText table first
+    → wave_trace_due table second ≡ Err o → RefusesTexts (Cause IsEnd) o first second
+wave_cause back IsEnd first second table o valid h =
+    refuse_text (λ (o : Outcome). RefusesTexts (Cause IsEnd) o first second) wave_limit 2 second (λ whole. wave_or_refusal (wave_reading table whole)) o tt
+    (reading_cause back IsEnd first second table o (wave_reading table second) valid refl) h

@@ -7,22 +7,15 @@ use Rattle.bus_command.specs.Acts as command
 use Rattle.bus_command.specs.Acts.{Program}
 use Rattle.bus_command.specs.declared.status.Status.{Status}
 use Rattle.bus_command.specs.Outside.{Call}
-use Rattle.bus_tool.specs.Causes.{Cause}
-use Rattle.bus_tool.specs.Due.{form_due, first_refusal}
-use Rattle.bus_tool.specs.Forms.{Form, form_of, sources_of, takes_memory}
+use Rattle.bus_tool.specs.Commands.{command_of}
+use Rattle.bus_tool.specs.Forms.{Form, form_of}
 use Rattle.bus_tool.specs.Refusals.{Outcome, ToolRefusal, ends_of, line_of}
-use Rattle.bus_tool.specs.Texts.{IsFormText}
 
--- The program: its forms, what is due of each, what each writes, and how it ends with a refusal of its own.
+-- The program: its forms, the command of each, and how it ends with a refusal of its own.
 abbrev pub tool_program : Program ToolRefusal Form
 tool_program = record {
   form_of = form_of;
-  sources = sources_of;
-  refusing = first_refusal;
-  memory = takes_memory;
-  due = form_due;
-  IsText = IsFormText;
-  Cause = Cause;
+  command = command_of;
   ends = ends_of;
   line = line_of;
 }

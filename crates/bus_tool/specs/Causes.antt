@@ -22,7 +22,6 @@ use Rattle.bus_wave.specs.WaveTexts.{IsWaveText}
 use Rattle.bus_cable.specs.Cables as cables
 use Rattle.bus_cable.specs.Grammar.{IsCableText}
 use Rattle.bus_command.specs.Causes.{IsValidText, AreTextsWith, AreTracedWith}
-use Rattle.bus_tool.specs.Forms.{Form, OnTable, OnMessages, OnTrace, Unwave, Drill, OnItself, Explain, ExplainBeside, Facts, Cable}
 use Rattle.bus_tool.specs.Forms.{MessagesCommand, Observe, Run, Drop, Schedule}
 use Rattle.bus_tool.specs.Refusals.{ToolRefusal, TableMode, Unspaced, WaveText, Uneven, NotAccepted, ShortLast, TooLong}
 use Rattle.bus_tool.specs.Refusals.{CableText, CableUnfit}
@@ -80,6 +79,10 @@ IsClosedEnd end table hands = (uneven_of table hands ≡ None) × (end ≡ close
 abbrev pub IsDropEnd : ℕ → Table → List Hand → Type 0
 IsDropEnd end table hands = (table.mode ≡ Aperiodic) × LastIsLong table hands × (end ≡ drop_end table hands)
 
+-- Which end a schedule has of a table and hands.
+abbrev pub EndIs : Type 1
+EndIs = ℕ → Table → List Hand → Type 0
+
 -- The end of the schedule that a command asks for: `run` and `drop` ask for one of an accepted table.
 abbrev pub IsEndOf : MessagesCommand → ℕ → Table → List Hand → Type 0
 IsEndOf (Observe horizon) end table hands = ⊥
@@ -87,33 +90,24 @@ IsEndOf Run end table hands = IsTrue (is_accepted (verdict_of table)) × IsClose
 IsEndOf Drop end table hands = IsTrue (is_accepted (verdict_of table)) × IsDropEnd end table hands
 IsEndOf Schedule end table hands = IsClosedEnd end table hands
 
--- The same of a form.
-abbrev pub IsFormEnd : Form → ℕ → Table → List Hand → Type 0
-IsFormEnd (OnTable command) end table hands = ⊥
-IsFormEnd (OnMessages command) end table hands = IsEndOf command end table hands
-IsFormEnd (OnTrace command) end table hands = ⊥
-IsFormEnd Unwave end table hands = ⊥
-IsFormEnd (Drill number) end table hands = ⊥
-IsFormEnd (OnItself about) end table hands = ⊥
-IsFormEnd Explain end table hands = ⊥
-IsFormEnd ExplainBeside end table hands = ⊥
-IsFormEnd Facts end table hands = ⊥
-IsFormEnd (Cable horizon) end table hands = ⊥
+-- No end, of a command that asks for no schedule.
+abbrev pub IsNoEnd : EndIs
+IsNoEnd end table hands = ⊥
 
--- That end, which is above its limit.
-pub record IsLongEnd (form : Form) (end : ℕ) (table : Table) (items : List Item) : Type 0 where
-  pub end_is : IsFormEnd form end table (hands_of table items)
+-- The end of a schedule, which is above its limit.
+pub record IsLongEnd (IsEnd : EndIs) (end : ℕ) (table : Table) (items : List Item) : Type 0 where
+  pub end_is : IsEnd end table (hands_of table items)
   pub above : longest_end < end
 
--- The cause of each refusal.
-abbrev pub Cause : Form → ToolRefusal → List ℕ → List ℕ → Type 0
-Cause form (TableMode needed) first second = IsOtherModeText needed first
-Cause form (Unspaced fault) first second = AreTracedWith (IsUnspacedAt fault) first second
-Cause form (WaveText line reason) first second = IsNoWaveOf first second
-Cause form (Uneven one one_count other other_count) first second =
+-- The cause of each refusal, of a command that asks for a schedule with this end.
+abbrev pub Cause : EndIs → ToolRefusal → List ℕ → List ℕ → Type 0
+Cause IsEnd (TableMode needed) first second = IsOtherModeText needed first
+Cause IsEnd (Unspaced fault) first second = AreTracedWith (IsUnspacedAt fault) first second
+Cause IsEnd (WaveText line reason) first second = IsNoWaveOf first second
+Cause IsEnd (Uneven one one_count other other_count) first second =
     AreTextsWith (DifferAs (record { one = one; one_count = one_count; other = other; other_count = other_count })) first second
-Cause form (NotAccepted verdict) first second = AreTextsWith (IsRefusal verdict) first second
-Cause form (ShortLast least ti) first second = AreTextsWith (IsShortLast least ti) first second
-Cause form (TooLong end) first second = AreTextsWith (IsLongEnd form end) first second
-Cause form (CableText line reason) first second = IsNoCableText second
-Cause form (CableUnfit error) first second = IsUnfitOnCable error first second
+Cause IsEnd (NotAccepted verdict) first second = AreTextsWith (IsRefusal verdict) first second
+Cause IsEnd (ShortLast least ti) first second = AreTextsWith (IsShortLast least ti) first second
+Cause IsEnd (TooLong end) first second = AreTextsWith (IsLongEnd IsEnd end) first second
+Cause IsEnd (CableText line reason) first second = IsNoCableText second
+Cause IsEnd (CableUnfit error) first second = IsUnfitOnCable error first second

@@ -1,26 +1,16 @@
 -- What is claimed of a drill.
-use Rattle.std.specs.Prelude.{◌≡◌, ℕ, ◌≤◌, List, [], ◌∷◌, codes}
-use Rattle.bus_text.specs.Numbers.{IsDecimal}
-use Rattle.bus_vectors.specs.Made.{most_number}
-use Rattle.bus_command.specs.declared.status.Status.{Status}
-use Rattle.bus_command.specs.declared.status.Status.TheVariants.{Done}
-use Rattle.bus_command.specs.Outside.{Call}
-use Rattle.bus_command.specs.Claims.{NothingFails, Answers}
-use Rattle.bus_command.specs.Readers.{no_source}
-use Rattle.bus_tool.specs.Drills.{drill_line}
+use Rattle.std.specs.Prelude.{ℕ, length}
+use Rattle.bus_schedule.specs.Closed.{closed_end}
+use Rattle.bus_audit.specs.Breaches.{garbled_count}
+use Rattle.bus_filter.specs.ReceivedTexts.{received_count}
+use Rattle.bus_vectors.specs.Made.{sender_count, round_count, made_table}
+use Rattle.bus_tool.specs.Drills.{drill_hands, drill_list}
+use Rattle.bus_tool.specs.Replies.{Reply, TheDrill}
 
--- The words are `drill` and the plain decimal of a number, which is within its limit.
-pub record IsDrillForm (words : List (List ℕ)) (number : ℕ) : Type 0 where
-  pub word : List ℕ
-  pub form : words ≡ codes "drill" ∷ word ∷ []
-  pub spelled : IsDecimal word number
-  pub within : number ≤ most_number
-
--- A call of `drill N`, in which nothing outside fails.
-pub record IsDrillOf (number : ℕ) (call : Call) : Type 0 where
-  pub form : IsDrillForm call.words number
-  pub undisturbed : NothingFails no_source call.before call.after
-
--- The line of the drill is written, and the status is Done.
-abbrev pub GivesDrill : ℕ → Call → Status → Type 0
-GivesDrill number call status = Answers Done (λ text. text ≡ drill_line number) call status
+-- What is answered of the drill of a number: how many senders and rounds it has, how many messages, when it ends, how many of them are
+-- garbled, and how many received lines there are.
+abbrev pub drill_reply : ℕ → Reply
+drill_reply number =
+    TheDrill number (sender_count number) (round_count number) (length (drill_list number))
+    (closed_end (made_table number) (drill_hands number)) (garbled_count (drill_list number))
+    (received_count (made_table number) (drill_list number))

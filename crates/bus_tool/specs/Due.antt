@@ -1,4 +1,4 @@
--- What is due for given words and texts: the outcome, where nothing outside fails and memory is granted. What a group takes is said once,
+-- What is due of a command's texts: the outcome, where nothing outside fails and memory is granted. What a group takes is said once,
 -- and a command says its answer to that.
 use Rattle.std.specs.Prelude.{ℕ, Bool, true, false, nat_lt, List, Option, Some, None, Result, Ok, Err, if◌then◌else◌}
 use Rattle.bus_text.specs.AllOf.{◌>>=◌}
@@ -44,16 +44,14 @@ use Rattle.bus_table.specs.Hands.{hands_of}
 use Rattle.bus_cable.specs.Cables as cables
 use Rattle.bus_cable.specs.Reading.{cable_reading}
 use Rattle.bus_command.specs.declared.inputs.Traced.{Traced}
-use Rattle.bus_command.specs.declared.outcome.Outcome.TheVariants.{Done, Answered, Usage}
-use Rattle.bus_command.specs.Due.{text_within, text_due, table_due, table_refusal_of, Inputs, hands_in, inputs_by, traced_by, traced_due}
+use Rattle.bus_command.specs.declared.outcome.Outcome.TheVariants.{Done, Answered}
+use Rattle.bus_command.specs.Due.{text_within, table_due, Inputs, hands_in, traced_by}
 use Rattle.bus_command.specs.Due.{outcome_with}
 use Rattle.bus_command.specs.Stages.{refusal_in}
-use Rattle.bus_tool.specs.Forms.{Form, OnTable, OnMessages, OnTrace, Unwave, Drill, OnItself, Explain, ExplainBeside, Facts, Cable}
 use Rattle.bus_tool.specs.Forms.{TableCommand, Check, Tolerance, Tidy, Report, Witness, Plan, PlanFor, Margins, PlanDelay, Bits, Greatest}
 use Rattle.bus_command.specs.Readers.{text_limit}
 use Rattle.bus_tool.specs.Forms.{MessagesCommand, Observe, Run, Drop, Schedule, TraceCommand, Receive, Audit, Vote, Wave, Diagnose}
-use Rattle.bus_tool.specs.Diagnosing.{beside_answer, beside_due}
-use Rattle.bus_tool.specs.Forms.{form_of, wave_limit, table_mode, messages_mode}
+use Rattle.bus_tool.specs.Forms.{wave_limit}
 use Rattle.bus_tool.specs.Refusals.{Outcome, refuse, TableMode, Unspaced, WaveText, Uneven, NotAccepted, ShortLast, TooLong}
 use Rattle.bus_tool.specs.Refusals.{CableText, CableUnfit}
 
@@ -293,40 +291,3 @@ explain_answer text = text_outcome (table_answer_of text)
 -- What `cable` answers to a table, a cable and items.
 abbrev pub cable_answer : CableInputs → Outcome
 cable_answer inputs = Done
-
--- ---- the outcome
--- The outcome of a form.
-abbrev pub form_due : Form → List ℕ → List ℕ → Outcome
-form_due (OnTable command) first second = outcome_with (table_answer command) (table_for (table_mode command) first)
-form_due (OnMessages command) first second =
-    outcome_with (inputs_answer command) (inputs_by (table_for (messages_mode command)) first second)
-form_due (OnTrace command) first second = outcome_with (traced_answer command) (traced_due first second)
-form_due Unwave first second = outcome_with unwave_answer (unwave_due first second)
-form_due (Drill number) first second = Done
-form_due (OnItself about) first second = Done
-form_due Explain first second = outcome_with explain_answer (text_due 1 first)
-form_due ExplainBeside first second = outcome_with beside_answer (beside_due first second)
-form_due Facts first second = outcome_with explain_answer (text_due 1 first)
-form_due (Cable horizon) first second = outcome_with cable_answer (cable_due first second)
-
--- Why a form refuses the first text, whatever the second is.
-abbrev pub first_refusal : Form → List ℕ → Option Outcome
-first_refusal (OnTable command) first = refusal_for (table_mode command) first
-first_refusal (OnMessages command) first = refusal_for (messages_mode command) first
-first_refusal (OnTrace command) first = table_refusal_of first
-first_refusal Unwave first = table_refusal_of first
-first_refusal (Drill number) first = None
-first_refusal (OnItself about) first = None
-first_refusal Explain first = refusal_in (text_due 1 first)
-first_refusal ExplainBeside first = refusal_in (text_due 1 first)
-first_refusal Facts first = refusal_in (text_due 1 first)
-first_refusal (Cable horizon) first = table_refusal_of first
-
--- The outcome where the words ask for a form, or for none.
-abbrev pub outcome_for : Option Form → List ℕ → List ℕ → Outcome
-outcome_for None first second = Usage
-outcome_for (Some form) first second = form_due form first second
-
--- The outcome that is due.
-abbrev pub due : List (List ℕ) → List ℕ → List ℕ → Outcome
-due words first second = outcome_for (form_of words) first second

@@ -1,5 +1,5 @@
--- What is claimed of `explain`: what it writes of any text, and what its numbers and its advices mean.
-use Rattle.std.specs.Prelude.{◌≡◌, ℕ, ◌+◌, ◌≤◌, false, IsTrue, List, length, slice_get, Some, Err, codes}
+-- What is claimed of `explain`: what its numbers and its advices mean.
+use Rattle.std.specs.Prelude.{◌≡◌, ℕ, ◌+◌, ◌≤◌, false, IsTrue, List, slice_get, Some, Err}
 use Rattle.bus_text.specs.Refusals.{Refusal}
 use Rattle.bus_strings.specs.Members.{In}
 use Rattle.bus_strings.specs.Messages.{Entry}
@@ -28,23 +28,8 @@ use Rattle.bus_explain.specs.Laws.{IsGapTold, IsLoadOf, IsSpare}
 use Rattle.bus_cable_plan.specs.Answers.{most_borne_of}
 use Rattle.bus_cable_plan.specs.Meaning.{IsPlanOf, NoneBear}
 use Rattle.bus_margins_periodic.specs.Sentences.{drifting}
-use Rattle.bus_command.specs.Claims.{Answers, IsFormOfOne, NothingFails}
-use Rattle.bus_command.specs.Outside.{Call}
-use Rattle.bus_command.specs.Readers.{entire, one_source, text_limit}
-use Rattle.bus_command.specs.declared.status.Status.{Status}
-use Rattle.bus_tool.specs.Due.{explain_answer}
-use Rattle.bus_tool.specs.Explanations.{explanation}
 use Rattle.bus_tool.specs.MarginsClaims.{TellsTurns}
-use Rattle.bus_tool.specs.Refusals.{status_of}
 use Rattle.bus_tool.specs.ToleranceClaims.{SettlesFromAnyStart, TellsTolerance}
-
--- A call of `explain T` whose first source tells this text, within its limit, whether it is one of a table or not, and in which nothing
--- outside fails.
-pub record IsExplainOf (text : List ℕ) (call : Call) : Type 0 where
-  pub form : IsFormOfOne (codes "explain") call.words
-  pub told : call.before.sources.first.bytes ≡ Some text
-  pub short : length text ≤ text_limit
-  pub undisturbed : NothingFails (one_source entire) call.before call.after
 
 -- A sender of a periodic table starts behind the gap that is told of it: in the closed schedule of any even hands, at least so many bit
 -- times behind the end of the transmission before its own.
@@ -91,10 +76,11 @@ pub record AdvisesRefused (table : Table) : Type 0 where
   pub work : (advice : Advice) → In advice (advices_of table) → AdviceWorks table advice
   pub whole : AreComplete table (advices_of table)
 
--- The explanation of the text is written: the status is Done where it gives a table that the verdict accepts, else Refused. What it tells
--- of a valid table holds; and what it lists as what may stand at a refused line is exactly what goes on.
-pub record GivesExplanation (text : List ℕ) (call : Call) (status : Status) : Type 0 where
-  pub gives : Answers (status_of (explain_answer text)) (λ written. written ≡ explanation text) call status
+-- What the explanation of a text tells:
+--   accepted   of an accepted table, as above
+--   refused    of a refused one
+--   unread     what it lists as what may stand at a refused line is exactly what goes on
+pub record ExplainsText (text : List ℕ) : Type 0 where
   pub accepted : (table : Table) → IsTrue (is_valid table) → IsTrue (is_accepted (verdict_of table)) → ExplainsAccepted table
   pub refused : (table : Table) → IsTrue (is_valid table) → is_accepted (verdict_of table) ≡ false → AdvisesRefused table
   pub unread : (refusal : Refusal) → text_reading text ≡ Err refusal → GoesOnAsTold text refusal.line

@@ -1,6 +1,5 @@
--- What is claimed of `diagnose`: what it writes of a recording, that it is no false alarm, and that its amounts are true.
-use Rattle.std.specs.Prelude.{◌≡◌, ℕ, ◌<◌, false, List, [], ◌∷◌, codes, Some}
-use Rattle.bus_text.specs.Numbers.{IsDecimal}
+-- What is claimed of `diagnose`: that what it finds is no false alarm, and that its amounts are true.
+use Rattle.std.specs.Prelude.{◌≡◌, ℕ, ◌<◌, false, Some}
 use Rattle.bus_strings.specs.Messages.{Entry}
 use Rattle.bus_bounds.specs.Bounds.{Bounds}
 use Rattle.bus_table.specs.Tables.{Sender, Table}
@@ -15,26 +14,7 @@ use Rattle.bus_findings.specs.Laws.{Keeps, IsOfSender, IsUnblamed, AreAmounts, A
 use Rattle.bus_findings.specs.Meanings.{GapIsMeantOf, IsMeantOf, StartsSingly}
 use Rattle.bus_findings.specs.Recorded.{seen, recorded, monitor_of, timers_of}
 use Rattle.bus_findings.specs.Terminals.{has_fault}
-use Rattle.bus_findings.specs.Texts.{findings_text}
 use Rattle.bus_recording_lawful.specs.Faultless.{exact_bounds}
-pub use Rattle.bus_command.specs.Bounding.{AreNear}
-use Rattle.bus_command.specs.Claims.{Answers, IsOfTraced}
-use Rattle.bus_command.specs.Outside.{Call}
-use Rattle.bus_command.specs.declared.status.Status.{Status}
-use Rattle.bus_tool.specs.Due.{findings_outcome}
-use Rattle.bus_tool.specs.Refusals.{status_of}
-
--- A call of `diagnose T R D J P`, where D, J and P are the plain decimals of bounds within their limits, on texts of a valid table and of a
--- trace, in which nothing outside fails.
-pub record IsDiagnoseOf (bounds : Bounds) (table : Table) (trace : Recording) (call : Call) : Type 0 where
-  pub delay : List ℕ
-  pub jitter : List ℕ
-  pub clocks : List ℕ
-  pub delay_is : IsDecimal delay bounds.delay
-  pub jitter_is : IsDecimal jitter bounds.jitter
-  pub clocks_is : IsDecimal clocks bounds.clocks
-  pub within : AreNear bounds
-  pub traced : IsOfTraced (codes "diagnose") (delay ∷ jitter ∷ clocks ∷ []) table trace call
 
 -- What an amount means of the terminal that it is told of, whatever this one and the others did, on any bus: how much too short its
 -- interval was, how much of the quiet was missing that it has to hear, and how long it had been due.
@@ -44,8 +24,7 @@ pub record AreTrue : Type 0 where
   pub sync_gap : SyncIsTrue
   pub late : LateIsTrue
 
--- What is found in the trace, as a recording of a bus of the table within the bounds, is written, and the status is Refused where a
--- fault is among it, else Done.
+-- What is found in the trace, as a recording of a bus of the table within the bounds:
 --   unblamed  no false alarm: on a bus that goes in whole bit times a sender that keeps its bounds, and hears the bus as it is recorded,
 --             is told no fault by a timer, whatever the other terminals do, and whatever came before the recording
 --   files     nor is it on any bus, where the trace is the file of a monitor: in whole bit times, rounded down, of a bus that ran before
@@ -59,9 +38,7 @@ pub record AreTrue : Type 0 where
 --   ticks     what they mean where the trace is the file of a monitor, of the bus that was recorded, in ticks as fine as you like: but for
 --             less than a bit time, or two
 --   gap       and the amount of its terminal gap, be the start the first of its sender
-pub record GivesFindings (bounds : Bounds) (table : Table) (trace : Recording) (call : Call) (status : Status) : Type 0 where
-  pub gives : Answers (status_of (findings_outcome (has_fault bounds table trace))) (λ text. text ≡ findings_text bounds table trace)
-      call status
+pub record TellsFindings (bounds : Bounds) (table : Table) (trace : Recording) : Type 0 where
   pub unblamed : (sender : Sender) (x : Entry) → Keeps bounds table trace sender → IsOfSender table trace sender x
       → IsUnblamed (judgement_of bounds table trace.list x)
   pub files : (sender : Sender) (x : Entry) → KeepsInFile bounds table trace sender → IsOfSender table trace sender x

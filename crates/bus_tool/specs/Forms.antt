@@ -1,5 +1,5 @@
 -- The forms of the command line, in groups by what they take. A word is its bytes.
-use Rattle.std.specs.Prelude.{ℕ, ◌≤◌, Bool, true, false, ◌&&◌, nat_le, List, [], ◌∷◌, codes, Option, Some, None, if◌then◌else◌}
+use Rattle.std.specs.Prelude.{ℕ, ◌≤◌, Bool, ◌&&◌, nat_le, List, [], ◌∷◌, codes, Option, Some, None, if◌then◌else◌}
 use Rattle.std.specs.Option.{option_map}
 use Rattle.std.specs.Str.{bytes_eq}
 use Rattle.bus_text.specs.Numbers.{is_plain_decimal, decimal_value}
@@ -11,7 +11,7 @@ use Rattle.bus_trace.specs.Limits.{trace_limit}
 use Rattle.bus_vectors.specs.Made.{most_number}
 use Rattle.bus_command.specs.About.{about_of}
 pub use Rattle.bus_command.specs.Bounding.{is_within, are_bounds, most_near_delay, most_near_jitter, are_near_bounds, bounds_of}
-use Rattle.bus_command.specs.Readers.{Named, Reader, Entire, entire, no_source, one_source, by_trace, two_sources}
+use Rattle.bus_command.specs.Readers.{Reader, Entire}
 pub use Rattle.bus_tool.specs.declared.forms.Form.{Form}
 pub use Rattle.bus_tool.specs.declared.forms.Form.TheVariants.{OnTable, OnMessages, OnTrace, Unwave, Drill, OnItself}
 pub use Rattle.bus_tool.specs.declared.forms.Form.TheVariants.{Explain, ExplainBeside, Facts, Cable}
@@ -119,32 +119,6 @@ entire_wave = Entire wave_limit
 -- How a text is read that stands beside a table and is explained: it may be a trace.
 abbrev pub entire_beside : Reader
 entire_beside = Entire trace_limit
-
--- The sources that a form names, and how each is read.
-abbrev pub sources_of : Form → Named
-sources_of (OnTable command) = one_source entire
-sources_of (OnMessages command) = two_sources entire entire
-sources_of (OnTrace command) = by_trace
-sources_of Unwave = two_sources entire entire_wave
-sources_of (Drill number) = no_source
-sources_of (OnItself about) = no_source
-sources_of Explain = one_source entire
-sources_of ExplainBeside = two_sources entire entire_beside
-sources_of Facts = one_source entire
-sources_of (Cable horizon) = two_sources entire entire
-
--- Whether a form takes any memory.
-abbrev pub takes_memory : Form → Bool
-takes_memory (OnTable command) = true
-takes_memory (OnMessages command) = true
-takes_memory (OnTrace command) = true
-takes_memory Unwave = true
-takes_memory (Drill number) = true
-takes_memory (OnItself about) = false
-takes_memory Explain = true
-takes_memory ExplainBeside = true
-takes_memory Facts = true
-takes_memory (Cable horizon) = true
 
 -- The mode that a command on a table needs of it.
 abbrev pub table_mode : TableCommand → Option Mode

@@ -3,7 +3,7 @@ use Rattle.std.specs.Prelude.{◌≡◌, ◌≢◌, ℕ, List, ◌⊎◌}
 use Rattle.bus_command.specs.declared.outcome.Outcome.TheVariants.{Usage}
 use Rattle.bus_command.specs.declared.status.Status.{Status}
 use Rattle.bus_command.specs.declared.status.Status.TheVariants.{NoMemory}
-use Rattle.bus_tool.specs.Due.{due}
+use Rattle.bus_tool.specs.Commands.{due}
 use Rattle.bus_tool.specs.Refusals.{Outcome, status_of}
 
 -- The status of this outcome, or that of want of memory in its place, which is never in place of usage.

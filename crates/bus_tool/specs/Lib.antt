@@ -11,8 +11,13 @@ pub mod DrillLaws
 pub mod Tolerances
 pub mod Texts
 pub mod Causes
+pub mod Commands
 pub mod Acts
 pub mod InMemory
+pub mod Asked
+pub mod Replies
+pub mod Asking
+pub mod Answering
 pub mod TableClaims
 pub mod ToleranceClaims
 pub mod MarginsClaims
@@ -33,5 +38,7 @@ pub mod FindingsClaims
 pub mod WaveClaims
 pub mod CableClaims
 pub mod Promises
+pub mod Spellings
+pub mod Keeping
 pub mod TextLaws
 pub mod inside

@@ -1,47 +1,29 @@
 -- What is claimed of `margins`: what its level means for the bus of the table within the bounds, and its numbers.
-use Rattle.std.specs.Prelude.{◌≡◌, ◌≢◌, ℕ, ◌+◌, ◌≤◌, List, [], ◌∷◌, codes}
-use Rattle.bus_text.specs.Numbers.{IsDecimal}
-use Rattle.bus_bounds.specs.Bounds.{Bounds, AreBounds}
+use Rattle.std.specs.Prelude.{◌≡◌, ◌≢◌, ℕ, ◌+◌, ◌≤◌, Bool, true, false}
+use Rattle.bus_bounds.specs.Bounds.{Bounds}
 use Rattle.bus_table.specs.Tables.{Table}
+use Rattle.bus_table.specs.declared.mode.Mode.{Mode}
 use Rattle.bus_table.specs.declared.mode.Mode.TheVariants.{Aperiodic, Periodic}
-use Rattle.bus_regime.specs.Verdicts.{verdict_of}
+use Rattle.bus_regime.specs.declared.table_verdict.TableVerdict.{TableVerdict}
+use Rattle.bus_regime.specs.declared.table_verdict.TableVerdict.TheVariants.{Accept, ShortCycle, SmallGap, NoSync}
 use Rattle.bus_clocks.specs.Buses.{Bus, among}
 use Rattle.bus_clocks.specs.Courses.{Course, IsCourse, HaveLeft, IsLeftAlone}
 use Rattle.bus_clocks.specs.Order.{IsCold, ArePoweredWithin, AreEven, IsInOrder}
 use Rattle.bus_clocks.specs.Rounds.{least_round, most_round}
 use Rattle.bus_clocks.specs.Settling.{HasSettled}
-use Rattle.bus_margins.specs.declared.level.Level.TheVariants.{Any, Neither}
+use Rattle.bus_margins.specs.declared.level.Level.{Level}
+use Rattle.bus_margins.specs.declared.level.Level.TheVariants.{Any, Common, Neither}
 use Rattle.bus_drift.specs.Beginning.{Begins}
 use Rattle.bus_margins.specs.Bearing.{keeps, borne_with, IsBorne}
 use Rattle.bus_margins.specs.Buses.{bus_of}
 use Rattle.bus_margins.specs.Rooms.{level_of, least_apart, most_apart}
-use Rattle.bus_margins_periodic.specs.declared.level.Level.TheVariants.{Turns, Leads}
+use Rattle.bus_margins_periodic.specs.declared.level.Level.{Level as TurnsLevel}
+use Rattle.bus_margins_periodic.specs.declared.level.Level.TheVariants.{Turns, Leads, Neither as Unkept}
 use Rattle.bus_margins_periodic.specs.Bearing.{keeps as keeps_turns}
 use Rattle.bus_margins_periodic.specs.Buses.{soon_of, late_of}
 use Rattle.bus_margins_periodic.specs.Laws.{KeepTurns, FollowFirst}
 use Rattle.bus_margins_periodic.specs.Margins.{level_of as turns_level}
-use Rattle.bus_command.specs.Claims.{Answers, TellsTable, NothingFails}
-use Rattle.bus_command.specs.Outside.{Call}
-use Rattle.bus_command.specs.Readers.{entire, one_source}
-use Rattle.bus_command.specs.declared.status.Status.{Status}
-use Rattle.bus_tool.specs.Due.{margins_outcome}
-use Rattle.bus_tool.specs.MarginsTexts.{margins_answer}
-use Rattle.bus_tool.specs.Refusals.{status_of}
-
--- A call of `margins T D J P`, where D, J and P are the plain decimals of bounds within their limits, on a text of a valid table, in which
--- nothing outside fails.
-pub record IsMarginsOf (bounds : Bounds) (table : Table) (call : Call) : Type 0 where
-  pub path : List ℕ
-  pub delay : List ℕ
-  pub jitter : List ℕ
-  pub clocks : List ℕ
-  pub form : call.words ≡ codes "margins" ∷ path ∷ delay ∷ jitter ∷ clocks ∷ []
-  pub delay_is : IsDecimal delay bounds.delay
-  pub jitter_is : IsDecimal jitter bounds.jitter
-  pub clocks_is : IsDecimal clocks bounds.clocks
-  pub within : AreBounds bounds
-  pub table_told : TellsTable table call.before.sources.first
-  pub undisturbed : NothingFails (one_source entire) call.before call.after
+use Rattle.bus_tool.specs.Replies.{Reply, TheMargins, TheVerdict}
 
 -- Every course of such a bus comes into order by itself, and stays there, up to each horizon, whenever its senders were powered up and
 -- whatever they sent until then, once it is left alone and as long as they have messages left. When all has been heard that came before, so
@@ -86,10 +68,33 @@ pub record TellsTurns (bounds : Bounds) (table : Table) : Type 0 where
   pub borne : IsBorne (keeps_turns bounds table (turns_level bounds table))
       (borne_with (keeps_turns bounds table (turns_level bounds table)))
 
--- The margins of an accepted table are written, which tell what they say, and the status is Done where it has a level, else Refused; of a
--- refused one its verdict line is, and the status is Refused.
-pub record GivesMargins (bounds : Bounds) (table : Table) (call : Call) (status : Status) : Type 0 where
-  pub gives : Answers (status_of (margins_outcome (verdict_of table) bounds table))
-      (λ text. text ≡ margins_answer (verdict_of table) bounds table) call status
-  pub tells : table.mode ≡ Aperiodic → TellsMargins bounds table
-  pub turns : table.mode ≡ Periodic → TellsTurns bounds table
+-- Whether this is a level of an aperiodic table, and not that it has none.
+abbrev pub is_level : Level → Bool
+is_level Any = true
+is_level Common = true
+is_level Neither = false
+
+-- The same of a periodic one.
+abbrev pub is_turns_level : TurnsLevel → Bool
+is_turns_level Turns = true
+is_turns_level Leads = true
+is_turns_level Unkept = false
+
+-- Whether a table of this mode has a level within these bounds.
+abbrev pub has_level : Mode → Bounds → Table → Bool
+has_level Aperiodic bounds table = is_level (level_of bounds table)
+has_level Periodic bounds table = is_turns_level (turns_level bounds table)
+
+-- Whether a table with this verdict is accepted and has one.
+abbrev pub has_margins : TableVerdict → Bounds → Table → Bool
+has_margins (Accept mode least most) bounds table = has_level table.mode bounds table
+has_margins (ShortCycle least ti) bounds table = false
+has_margins (SmallGap terminal gap needed) bounds table = false
+has_margins (NoSync terminal gap needed) bounds table = false
+
+-- What is answered of a table with this verdict: its margins, or of a refused one the verdict.
+abbrev pub margins_reply : TableVerdict → Bounds → Table → Reply
+margins_reply (Accept mode least most) bounds table = TheMargins bounds table
+margins_reply (ShortCycle least ti) bounds table = TheVerdict (ShortCycle least ti)
+margins_reply (SmallGap terminal gap needed) bounds table = TheVerdict (SmallGap terminal gap needed)
+margins_reply (NoSync terminal gap needed) bounds table = TheVerdict (NoSync terminal gap needed)

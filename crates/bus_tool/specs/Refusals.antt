@@ -28,10 +28,10 @@ abbrev pub place_of : ToolRefusal → Place
 place_of (TableMode needed) = place.First
 place_of (Unspaced fault) = place.Second
 place_of (WaveText line reason) = place.Second
-place_of (Uneven one one_count other other_count) = place.Behind
-place_of (NotAccepted verdict) = place.Behind
-place_of (ShortLast least ti) = place.Behind
-place_of (TooLong end) = place.Behind
+place_of (Uneven one one_count other other_count) = place.Both
+place_of (NotAccepted verdict) = place.Both
+place_of (ShortLast least ti) = place.Both
+place_of (TooLong end) = place.Both
 place_of (CableText line reason) = place.Second
 place_of (CableUnfit error) = place.Second
 

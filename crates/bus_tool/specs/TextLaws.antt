@@ -13,10 +13,10 @@ use Rattle.bus_trace.specs.Traces.{Recording, IsTrace, AscendAbove, trace_text}
 use Rattle.bus_audit.specs.declared.answer.AuditAnswer.{AuditAnswer}
 use Rattle.bus_audit.specs.declared.answer.AuditAnswer.TheVariants.{Lawful}
 use Rattle.bus_command.specs.Outcomes.{is_written}
-use Rattle.bus_tool.specs.Due.{due}
+use Rattle.bus_tool.specs.Commands.{due, IsCommandText}
 use Rattle.bus_hands.specs.Holds.{hand_holds, hold_of_hand}
 use Rattle.bus_tool.specs.Forms.{Receive}
-use Rattle.bus_tool.specs.Texts.{IsObserved, IsRunRecording, IsDropRecording, IsCommandText, run_text, trace_answer_text}
+use Rattle.bus_tool.specs.Texts.{IsObserved, IsRunRecording, IsDropRecording, run_text, trace_answer_text}
 use Rattle.bus_tool.specs.TraceClaims.{IsFinding}
 
 -- A command writes one text at most.

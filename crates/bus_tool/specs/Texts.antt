@@ -1,6 +1,6 @@
 -- What the commands write on `out`, where their outcome is an answer.
 --   hold   how many messages a terminal held when the bus began to run: a line of a trace
-use Rattle.std.specs.Prelude.{◌≡◌, ℕ, List, ◌++◌, Option, Some, None}
+use Rattle.std.specs.Prelude.{◌≡◌, ℕ, List, ◌++◌}
 use Rattle.bus_strings.specs.Canonical.{messages_text}
 use Rattle.bus_table.specs.Tables.{Table, Hand}
 use Rattle.bus_table.specs.Canonical.{table_text}
@@ -26,20 +26,13 @@ use Rattle.bus_vote.specs.VoteTexts.{votes_text}
 use Rattle.bus_hands.specs.Holds.{hand_holds}
 use Rattle.bus_wave.specs.WaveTexts.{wave_text}
 use Rattle.bus_command.specs.declared.inputs.Traced.{Traced}
-use Rattle.bus_command.specs.Due.{Inputs, hands_in, inputs_by, text_due, traced_due, IsTextOf}
+use Rattle.bus_command.specs.Due.{Inputs, hands_in}
 use Rattle.bus_facts.specs.Facts.{facts_text}
-use Rattle.bus_tool.specs.Diagnosing.{IsToldBeside, beside_answer, beside_due}
 use Rattle.bus_findings.specs.Texts.{findings_text}
-use Rattle.bus_tool.specs.Forms.{Form, OnTable, OnMessages, OnTrace, Unwave, Drill, OnItself, Explain, ExplainBeside, Facts, Cable}
 use Rattle.bus_tool.specs.Forms.{TableCommand, Check, Tolerance, Tidy, Report, Witness, Plan, PlanFor, Margins}
 use Rattle.bus_tool.specs.Forms.{MessagesCommand, Observe, Run, Drop, Schedule, TraceCommand, Receive, Audit, Vote, Wave, Diagnose}
-use Rattle.bus_tool.specs.Forms.{form_of, table_mode, messages_mode}
-use Rattle.bus_tool.specs.Due.{table_for, cable_plan_of, unwave_due, table_answer, inputs_answer, traced_answer, unwave_answer}
-use Rattle.bus_tool.specs.Due.{explain_answer}
-use Rattle.bus_tool.specs.Due.{CableInputs, cable_hands, cable_answer, cable_due}
-use Rattle.bus_tool.specs.Drills.{drill_line}
+use Rattle.bus_tool.specs.Due.{CableInputs, cable_hands, cable_plan_of}
 use Rattle.bus_tool.specs.Explanations.{explanation}
-use Rattle.bus_tool.specs.Itself.{itself_text}
 use Rattle.bus_tool.specs.Reports.{report_text}
 use Rattle.bus_tool.specs.PlanTexts.{plan_text, cable_plan_text}
 use Rattle.bus_tool.specs.MarginsTexts.{margins_answer}
@@ -51,7 +44,7 @@ pub record IsObserved (table : Table) (hands : List Hand) (until : ℕ) (recordi
   pub holds : recording.holds ≡ hand_holds hands
   pub lawful : IsLawful (quiet_of table) (stations_of table hands) until recording.list
 
--- The recording of a run: its horizon is the closed end, what each sender held, and the run.
+-- The recording of a run: its horizon is the closed end, its holds are those of the hands, and its list is the run.
 pub record IsRunRecording (table : Table) (hands : List Hand) (recording : Recording) : Type 0 where
   pub horizon : recording.horizon ≡ closed_end table hands
   pub holds : recording.holds ≡ hand_holds hands
@@ -155,27 +148,3 @@ AreFacts first text = text ≡ facts_text first
 -- What is written of a table, a cable and items.
 abbrev pub IsCableAnswerText : ℕ → CableInputs → List ℕ → Type 0
 IsCableAnswerText horizon inputs text = IsOnCableText horizon inputs.table inputs.cable (cable_hands inputs) text
-
--- What a form writes of both texts.
-abbrev pub IsFormText : Form → List ℕ → List ℕ → List ℕ → Type 0
-IsFormText (OnTable command) first second text =
-    IsTextOf (table_answer command) (IsTableAnswerText command) (table_for (table_mode command) first) text
-IsFormText (OnMessages command) first second text =
-    IsTextOf (inputs_answer command) (IsInputsText command) (inputs_by (table_for (messages_mode command)) first second) text
-IsFormText (OnTrace command) first second text = IsTextOf (traced_answer command) (IsTracedText command) (traced_due first second) text
-IsFormText Unwave first second text = IsTextOf unwave_answer IsUnwavedText (unwave_due first second) text
-IsFormText (Drill number) first second text = text ≡ drill_line number
-IsFormText (OnItself about) first second text = text ≡ itself_text about
-IsFormText Explain first second text = IsTextOf explain_answer IsExplanation (text_due 1 first) text
-IsFormText ExplainBeside first second text = IsTextOf beside_answer IsToldBeside (beside_due first second) text
-IsFormText Facts first second text = IsTextOf explain_answer AreFacts (text_due 1 first) text
-IsFormText (Cable horizon) first second text = IsTextOf cable_answer (IsCableAnswerText horizon) (cable_due first second) text
-
--- What is written where the words ask for a form, or for none.
-abbrev pub IsTextFor : Option Form → List ℕ → List ℕ → List ℕ → Type 0
-IsTextFor None first second text = ⊥
-IsTextFor (Some form) first second text = IsFormText form first second text
-
--- What a command writes.
-abbrev pub IsCommandText : List (List ℕ) → List ℕ → List ℕ → List ℕ → Type 0
-IsCommandText words first second text = IsTextFor (form_of words) first second text

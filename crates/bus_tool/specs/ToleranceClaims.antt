@@ -1,5 +1,5 @@
 -- What is claimed of `tolerance`: what its number and its last word mean.
-use Rattle.std.specs.Prelude.{◌≡◌, ◌↔◌, ℕ, ◌+◌, ◌≤◌, IsTrue, List, ◌++◌, codes, Some, None}
+use Rattle.std.specs.Prelude.{◌≡◌, ◌↔◌, ℕ, ◌+◌, ◌≤◌, IsTrue, List, ◌++◌, length, codes, Some, None}
 use Rattle.bus_strings.specs.Messages.{Entry}
 use Rattle.bus_table.specs.Hands.{are_hands}
 use Rattle.bus_table.specs.Tables.{Table, Hand, sender_numbers}
@@ -10,7 +10,9 @@ use Rattle.bus_medium.specs.CableLawful.{IsLawfulOnCable}
 use Rattle.bus_medium.specs.Delays.{Delays, AreDelays, at_once}
 use Rattle.bus_medium.specs.Timings.{stations_of}
 use Rattle.bus_medium.specs.Wakes.{Wakes, AreWakes}
-use Rattle.bus_regime.specs.Verdicts.{verdict_of, is_accepted, most_cycle}
+use Rattle.bus_regime.specs.Verdicts.{most_cycle}
+use Rattle.bus_regime.specs.declared.table_verdict.TableVerdict.{TableVerdict}
+use Rattle.bus_regime.specs.declared.table_verdict.TableVerdict.TheVariants.{Accept, ShortCycle, SmallGap, NoSync}
 use Rattle.bus_schedule.specs.CableRuns.{IsRunOnCable}
 use Rattle.bus_schedule.specs.Closed.{closed}
 use Rattle.bus_schedule.specs.Even.{are_even}
@@ -22,12 +24,8 @@ use Rattle.bus_reach.specs.Schedule.{cable_closed}
 use Rattle.bus_regime.specs.Starting.{starts_itself}
 use Rattle.bus_reach.specs.Settling.{ArePoweredUp, HaveLeft, HasSettled}
 use Rattle.bus_exact.specs.Settling.{HasSettledOnCable}
-use Rattle.bus_command.specs.Claims.{Answers}
-use Rattle.bus_command.specs.Outside.{Call}
-use Rattle.bus_command.specs.declared.status.Status.{Status}
-use Rattle.bus_tool.specs.Due.{verdict_outcome}
-use Rattle.bus_tool.specs.Refusals.{status_of}
-use Rattle.bus_tool.specs.Tolerances.{tolerance_of, tolerance_text}
+use Rattle.bus_tool.specs.Replies.{Reply, TheTolerance, TheVerdict}
+use Rattle.bus_tool.specs.Tolerances.{tolerance_of, most_apart, starts_in}
 
 -- A table of this mode keeps its order with all delays between its senders up to d: whatever even hands these have, the closed schedule on
 -- the cable is what they do. In aperiodic mode they may wake up to d later too.
@@ -64,14 +62,26 @@ SettlesOnCable table d =
 abbrev pub StartsItself : Table → Type 0
 StartsItself table = (table.mode ≡ Aperiodic) × IsTrue (starts_itself table)
 
--- What the line of an accepted table tells:
+-- What is answered of a table with this verdict: its tolerance, how far apart two starts of a sender are, and whether its order comes about
+-- from any start; of a refused one the verdict.
+abbrev pub tolerance_reply : TableVerdict → Table → Reply
+tolerance_reply (Accept mode least most) table =
+    TheTolerance table.mode (tolerance_of table) least (most_apart table.mode (length table.senders) (tolerance_of table) most)
+    (starts_in table.mode table)
+tolerance_reply (ShortCycle least ti) table = TheVerdict (ShortCycle least ti)
+tolerance_reply (SmallGap terminal gap needed) table = TheVerdict (SmallGap terminal gap needed)
+tolerance_reply (NoSync terminal gap needed) table = TheVerdict (NoSync terminal gap needed)
+
+-- What the answer of an accepted table tells:
 --   number   with delays up to it the table keeps its order, and there is a straight cable one bit time longer on which it doesn't
---   alone    where it is `any`, there is one sender, which keeps its order with all delays
---   start    where the table starts itself, the order comes about from any start
+--   alone    where there is none, there is one sender, which keeps its order with all delays
+--   told     that the order comes about from any start is told exactly of a table that starts itself
+--   start    of such a one it does
 --   cable    and with all delays that the table bears
 pub record TellsTolerance (table : Table) : Type 0 where
   pub number : (d : ℕ) → tolerance_of table ≡ Some d → KeepsOrderIn table.mode table d × LosesOrderIn table.mode table (d + 1)
   pub alone : tolerance_of table ≡ None → (d : ℕ) → KeepsOrderIn table.mode table d
+  pub told : IsTrue (starts_in table.mode table) ↔ StartsItself table
   pub start : StartsItself table → SettlesFromAnyStart table
   pub cable : (d : ℕ) → StartsItself table → IsTrue (bears table d) → SettlesOnCable table d
 
@@ -83,14 +93,3 @@ EndsIn end text = (front : List ℕ) × (text ≡ front ++ end)
 pub record TellsStart (table : Table) (text : List ℕ) : Type 0 where
   pub any : EndsIn (codes " any\n") text ↔ StartsItself table
   pub settled : EndsIn (codes " settled\n") text ↔ (StartsItself table → ⊥)
-
--- The text is what `tolerance` writes of the table, and of an accepted one it tells whether that starts itself.
-pub record IsToleranceOf (table : Table) (text : List ℕ) : Type 0 where
-  pub is : text ≡ tolerance_text (verdict_of table) table
-  pub start : IsTrue (is_accepted (verdict_of table)) → TellsStart table text
-
--- The tolerance line is written of an accepted table, which tells what it says, and else the verdict line. The status is Done where the
--- verdict accepts, else Refused.
-pub record GivesTolerance (table : Table) (call : Call) (status : Status) : Type 0 where
-  pub gives : Answers (status_of (verdict_outcome (verdict_of table))) (IsToleranceOf table) call status
-  pub tells : IsTrue (is_accepted (verdict_of table)) → TellsTolerance table

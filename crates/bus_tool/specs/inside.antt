@@ -3,6 +3,7 @@ pub mod Acting
 pub mod Drilled
 pub mod Escapes
 pub mod Refused
+pub mod RefusalWords
 pub mod ReportData
 pub mod TakenCable
 pub mod TakenBeside

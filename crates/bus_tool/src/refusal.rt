@@ -9,6 +9,7 @@ ghost use Rattle.bus_table.specs.Text.{mode_word};
 ghost use Rattle.bus_tool.specs.Due.{uneven_refusal};
 ghost use Rattle.bus_tool.specs.Refusals as refusals;
 ghost use Rattle.bus_tool.specs.Refusals.{count_words, ends_of, line_of, place_of, short_last_line, uneven_words};
+ghost use Rattle.bus_tool.specs.inside.RefusalWords.{refusal_words};
 ghost use Rattle.bus_wave.specs.Reasons.{entry_words, wave_reason_word};
 
 use bus_command::{Place, Refusal, Status, put_error};
@@ -77,7 +78,7 @@ impl ToolRefusal {
             ToolRefusal::Uneven { .. }
             | ToolRefusal::NotAccepted(_)
             | ToolRefusal::ShortLast { .. }
-            | ToolRefusal::TooLong { .. } => Place::Behind,
+            | ToolRefusal::TooLong { .. } => Place::Both,
         }
     }
 }
@@ -124,22 +125,49 @@ impl Refusal for ToolRefusal {
 
     fn write_line<K: Sink>(&self, err: &mut K) -> Result<(), WriteFault> {
         match *self {
-            ToolRefusal::TableMode { needed } => write_table_mode(needed, err),
-            ToolRefusal::Unspaced(fault) => write_unspaced(fault, err),
-            ToolRefusal::WaveText { line, reason } => write_wave_text(line, reason, err),
-            ToolRefusal::Uneven {
-                one,
-                one_count,
-                other,
-                other_count,
-            } => write_uneven(one, one_count, other, other_count, err),
             ToolRefusal::NotAccepted(verdict) => write_verdict(&verdict, err),
             ToolRefusal::ShortLast { least, ti } => write_short_last(least, ti, err),
-            ToolRefusal::TooLong { end } => write_too_long(end, err),
-            ToolRefusal::CableText { line, reason } => write_cable_text(line, reason, err),
-            ToolRefusal::CableUnfit(error) => write_cable_unfit(error, err),
+            ToolRefusal::TableMode { .. } => write_error(*self, err),
+            ToolRefusal::Unspaced(_) => write_error(*self, err),
+            ToolRefusal::WaveText { .. } => write_error(*self, err),
+            ToolRefusal::Uneven { .. } => write_error(*self, err),
+            ToolRefusal::TooLong { .. } => write_error(*self, err),
+            ToolRefusal::CableText { .. } => write_error(*self, err),
+            ToolRefusal::CableUnfit(_) => write_error(*self, err),
         }
     }
+}
+
+/// Puts what the ERROR line of a refusal says behind the status; nothing where the refusal has a line of its own.
+fn put_words<K: Sink>(text: &mut TextBuffer, sink: &mut K, why: ToolRefusal)
+    ensures { Adds K.held K.faults sink.old sink.new text.old text.new (refusal_words why) }
+{
+    match why {
+        ToolRefusal::TableMode { needed } => put_table_mode(text, sink, needed),
+        ToolRefusal::Unspaced(fault) => put_unspaced(text, sink, fault),
+        ToolRefusal::WaveText { line, reason } => put_wave_text(text, sink, line, reason),
+        ToolRefusal::Uneven {
+            one,
+            one_count,
+            other,
+            other_count,
+        } => put_uneven(text, sink, one, one_count, other, other_count),
+        ToolRefusal::NotAccepted(_) | ToolRefusal::ShortLast { .. } => text.put(sink, b""),
+        ToolRefusal::TooLong { end } => put_too_long(text, sink, end),
+        ToolRefusal::CableText { line, reason } => put_cable_text(text, sink, line, reason),
+        ToolRefusal::CableUnfit(error) => put_cable_unfit(text, sink, error),
+    }
+}
+
+/// Writes the ERROR line of a refusal.
+fn write_error<K: Sink>(why: ToolRefusal, sink: &mut K) -> Result<(), WriteFault>
+    ensures { WritesText K.held K.faults sink.old sink.new result (error_line (ends_of why) (refusal_words why)) }
+{
+    let mut text = TextBuffer::new();
+    put_error(&mut text, sink, why.status());
+    put_words(&mut text, sink, why);
+    text.put_byte(sink, b'\n');
+    text.finish(sink)
 }
 
 /// Puts that a table isn't of the mode that is needed.
@@ -150,34 +178,12 @@ fn put_table_mode<K: Sink>(text: &mut TextBuffer, sink: &mut K, needed: Mode)
     put_mode(text, sink, needed);
 }
 
-/// Writes that a table isn't of the mode that is needed.
-fn write_table_mode<K: Sink>(needed: Mode, sink: &mut K) -> Result<(), WriteFault>
-    ensures { WritesText K.held K.faults sink.old sink.new result (line_of (refusals.TableMode needed)) }
-{
-    let mut text = TextBuffer::new();
-    put_error(&mut text, sink, Status::TableRefused);
-    put_table_mode(&mut text, sink, needed);
-    text.put_byte(sink, b'\n');
-    text.finish(sink)
-}
-
 /// Puts the refusal of a trace that isn't spaced.
 fn put_unspaced<K: Sink>(text: &mut TextBuffer, sink: &mut K, fault: WaveFault)
     ensures { Adds K.held K.faults sink.old sink.new text.old text.new (codes "wave entry " ++ entry_words fault) }
 {
     text.put(sink, b"wave entry ");
     put_fault(text, sink, fault);
-}
-
-/// Writes the refusal of a trace that isn't spaced.
-fn write_unspaced<K: Sink>(fault: WaveFault, sink: &mut K) -> Result<(), WriteFault>
-    ensures { WritesText K.held K.faults sink.old sink.new result (line_of (refusals.Unspaced fault)) }
-{
-    let mut text = TextBuffer::new();
-    put_error(&mut text, sink, Status::InputRefused);
-    put_unspaced(&mut text, sink, fault);
-    text.put_byte(sink, b'\n');
-    text.finish(sink)
 }
 
 /// Puts the word of a reason against a line of a wave.
@@ -195,17 +201,6 @@ fn put_wave_text<K: Sink>(text: &mut TextBuffer, sink: &mut K, line: u64, reason
     put_numbered(text, sink, b"wave line ", line);
     text.put_byte(sink, b' ');
     put_wave_reason(text, sink, reason);
-}
-
-/// Writes the refusal of a line of a wave.
-fn write_wave_text<K: Sink>(line: u64, reason: WaveReason, sink: &mut K) -> Result<(), WriteFault>
-    ensures { WritesText K.held K.faults sink.old sink.new result (line_of (refusals.WaveText line reason)) }
-{
-    let mut text = TextBuffer::new();
-    put_error(&mut text, sink, Status::InputRefused);
-    put_wave_text(&mut text, sink, line, reason);
-    text.put_byte(sink, b'\n');
-    text.finish(sink)
 }
 
 /// Puts a terminal and how many messages it has.
@@ -232,23 +227,6 @@ fn put_uneven<K: Sink>(
     put_count(text, sink, one, one_count);
     text.put_byte(sink, b' ');
     put_count(text, sink, other, other_count);
-}
-
-/// Writes two senders that have different numbers of messages.
-fn write_uneven<K: Sink>(
-    one: u8,
-    one_count: u64,
-    other: u8,
-    other_count: u64,
-    sink: &mut K,
-) -> Result<(), WriteFault>
-    ensures { WritesText K.held K.faults sink.old sink.new result (line_of (refusals.Uneven one one_count other other_count)) }
-{
-    let mut text = TextBuffer::new();
-    put_error(&mut text, sink, Status::InputRefused);
-    put_uneven(&mut text, sink, one, one_count, other, other_count);
-    text.put_byte(sink, b'\n');
-    text.finish(sink)
 }
 
 /// Puts the line of a last cycle that is shorter than the transmit interval.
@@ -279,17 +257,6 @@ fn put_too_long<K: Sink>(text: &mut TextBuffer, sink: &mut K, end: u128)
     text.put_number(sink, end);
 }
 
-/// Writes the end of a schedule that is too long.
-fn write_too_long<K: Sink>(end: u128, sink: &mut K) -> Result<(), WriteFault>
-    ensures { WritesText K.held K.faults sink.old sink.new result (line_of (refusals.TooLong end)) }
-{
-    let mut text = TextBuffer::new();
-    put_error(&mut text, sink, Status::TooLong);
-    put_too_long(&mut text, sink, end);
-    text.put_byte(sink, b'\n');
-    text.finish(sink)
-}
-
 /// Puts the word of a reason against a line of a cable text.
 fn put_reason<K: Sink>(text: &mut TextBuffer, sink: &mut K, reason: Reason)
     ensures { Adds K.held K.faults sink.old sink.new text.old text.new (reason_word reason) }
@@ -307,32 +274,10 @@ fn put_cable_text<K: Sink>(text: &mut TextBuffer, sink: &mut K, line: u64, reaso
     put_reason(text, sink, reason);
 }
 
-/// Writes the refusal of a line of a cable text.
-fn write_cable_text<K: Sink>(line: u64, reason: Reason, sink: &mut K) -> Result<(), WriteFault>
-    ensures { WritesText K.held K.faults sink.old sink.new result (line_of (refusals.CableText line reason)) }
-{
-    let mut text = TextBuffer::new();
-    put_error(&mut text, sink, Status::InputRefused);
-    put_cable_text(&mut text, sink, line, reason);
-    text.put_byte(sink, b'\n');
-    text.finish(sink)
-}
-
 /// Puts the item of a cable text that doesn't fit, and why.
 fn put_cable_unfit<K: Sink>(text: &mut TextBuffer, sink: &mut K, error: FitError)
     ensures { Adds K.held K.faults sink.old sink.new text.old text.new (codes "cable item " ++ fit_words error) }
 {
     text.put(sink, b"cable item ");
     put_fit_error(text, sink, error);
-}
-
-/// Writes the item of a cable text that doesn't fit.
-fn write_cable_unfit<K: Sink>(error: FitError, sink: &mut K) -> Result<(), WriteFault>
-    ensures { WritesText K.held K.faults sink.old sink.new result (line_of (refusals.CableUnfit error)) }
-{
-    let mut text = TextBuffer::new();
-    put_error(&mut text, sink, Status::InputRefused);
-    put_cable_unfit(&mut text, sink, error);
-    text.put_byte(sink, b'\n');
-    text.finish(sink)
 }

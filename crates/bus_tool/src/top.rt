@@ -1,7 +1,7 @@
 //! The top call: the command of some words, over two sources and two sinks.
 ghost use Rattle.bus_command.specs.Outside.{call};
 ghost use Rattle.bus_tool.specs.Acts.{ComesOf};
-ghost use Rattle.bus_tool.specs.Promises.{Promises};
+ghost use Rattle.bus_tool.specs.Keeping.{Keeps, Spells};
 
 use crate::command::act;
 use bus_advice::laws::{advices_work, none_missing};
@@ -54,7 +54,10 @@ pub fn tool<S: Source, K: Sink, E: Sink>(
     err: &mut E,
 ) -> Status
     // Of texts that are right, where nothing outside fails: what each command promises.
-    ensures keeps { Promises (call S.Source K.Sink words.now first.old second.old out.old first.new second.new out.new) result }
+    ensures keeps { Keeps (call S.Source K.Sink words.now first.old second.old out.old first.new second.new out.new) result }
+
+    // And what the texts of its replies tell.
+    ensures spells { Spells (call S.Source K.Sink words.now first.old second.old out.old first.new second.new out.new) }
 
     // Of any words and bytes: the outcome that is due or a fault in its place, what was taken and written, what `err` holds, and the
     // status.

@@ -1,6 +1,6 @@
 -- What is due of a table and a trace, and its cause where it refuses them.
 use Rattle.std.specs.Prelude.{◌≡◌, ℕ, ◌≤◌, Bool, false, List, Option, Some, None, Result, Ok, Err}
-use Rattle.std.proofs.Common.{arith, refl, sym, ap, ◌∙◌, subst, inl, inr}
+use Rattle.std.proofs.Common.{arith, refl, sym, ap, subst, inl, inr}
 use Rattle.bus_dump.specs.Doubled.{doubled}
 use Rattle.bus_view.proofs.PageLaws.{page_cause}
 use Rattle.bus_command.specs.Causes.{RefusesTexts}
@@ -12,8 +12,8 @@ use Rattle.bus_command.proofs.ActLaws.{DueHasCause}
 use Rattle.bus_command.proofs.DoLaws.{Agrees}
 use Rattle.bus_command.proofs.ReadLemmas.{CauseLaws, table_cause, table_valid, trace_cause, read_trace}
 use Rattle.bus_command.proofs.FollowedLemmas.{recorded_read, recorded_stop}
-use Rattle.bus_view.specs.Acts.{view_program, IsDoubledAt}
-use Rattle.bus_command.specs.Causes.{AreTracedWith}
+use Rattle.bus_view.specs.Acts.{view_program}
+use Rattle.bus_view.specs.Commands.{Cause}
 use Rattle.bus_view.specs.Due.{single_outcome, view_answer, recorded_answer, IsOfView, IsView}
 use Rattle.bus_view.specs.Forms.{OnTrace, OnItself, Page, View, Dump, SaveFile, Painted, Judged, hears}
 use Rattle.bus_view.specs.Refusals.{Doubled, Outcome}
@@ -37,12 +37,9 @@ recorded_agree view recorded = record {
 }
 
 -- ---- causes
-abbrev Causes : Doubled → List ℕ → List ℕ → Type 0
-Causes refusal first second = AreTracedWith (IsDoubledAt refusal) first second
-
 single_cause : CauseLaws → (hears : Bool) (first second : List ℕ) (recorded : Recorded) (entry : Option ℕ)
     → recorded_due {R = Doubled} hears first second ≡ Ok recorded
-    → doubled recorded.trace.list ≡ entry → RefusesTexts Causes (single_outcome entry) first second
+    → doubled recorded.trace.list ≡ entry → RefusesTexts Cause (single_outcome entry) first second
 single_cause laws hears first second recorded None h e = tt
 single_cause laws hears first second recorded (Some entry) h e =
     let read = recorded_read {R = Doubled} hears first second recorded h in
@@ -55,27 +52,27 @@ single_cause laws hears first second recorded (Some entry) h e =
     }
 
 answer_cause : CauseLaws → (view : View) (first second : List ℕ) (recorded : Recorded)
-    → recorded_due {R = Doubled} (hears view) first second ≡ Ok recorded → RefusesTexts Causes (recorded_answer view recorded) first second
+    → recorded_due {R = Doubled} (hears view) first second ≡ Ok recorded → RefusesTexts Cause (recorded_answer view recorded) first second
 answer_cause laws (Dump dump window) first second recorded h = single_cause laws false first second recorded (doubled recorded.trace.list) h refl
 answer_cause laws (SaveFile window) first second recorded h = tt
 answer_cause laws (Painted picture window) first second recorded h = tt
 answer_cause laws (Judged picture bounds window) first second recorded h = tt
 
 taken_cause : CauseLaws → (hears : Bool) (first second : List ℕ) (o : Outcome) → recorded_due hears first second ≡ Err o
-    → RefusesTexts Causes o first second
+    → RefusesTexts Cause o first second
 taken_cause laws hears first second o h = elim (recorded_stop {R = Doubled} hears first second o h) [
-  | inl e ↦ table_cause laws Causes first second o e
-  | inr e ↦ trace_cause laws Causes first second o e
+  | inl e ↦ table_cause laws Cause first second o e
+  | inr e ↦ trace_cause laws Cause first second o e
 ]
 
 due_cause : CauseLaws → (view : View) (first second : List ℕ) (o : Outcome) (due : Result Recorded Outcome)
-    → recorded_due (hears view) first second ≡ due → outcome_with (recorded_answer view) due ≡ o → RefusesTexts Causes o first second
+    → recorded_due (hears view) first second ≡ due → outcome_with (recorded_answer view) due ≡ o → RefusesTexts Cause o first second
 due_cause laws view first second o (Ok recorded) e h =
-    subst (λ o. RefusesTexts Causes o first second) h (answer_cause laws view first second recorded e)
+    subst (λ o. RefusesTexts Cause o first second) h (answer_cause laws view first second recorded e)
 due_cause laws view first second o (Err r) e h =
-    subst (λ o. RefusesTexts Causes o first second) h (taken_cause laws (hears view) first second r e)
+    subst (λ o. RefusesTexts Cause o first second) h (taken_cause laws (hears view) first second r e)
 
 pub due_has_cause : CauseLaws → DueHasCause view_program
 due_has_cause laws (OnTrace view) first second o h = due_cause laws view first second o (recorded_due (hears view) first second) refl h
-due_has_cause laws (OnItself about) first second o h = subst (λ o. RefusesTexts Causes o first second) h tt
+due_has_cause laws (OnItself about) first second o h = subst (λ o. RefusesTexts Cause o first second) h tt
 due_has_cause laws (Page asked) first second o h = page_cause first second o h

@@ -5,4 +5,5 @@ pub mod PaintLemmas
 pub mod SaveLemmas
 pub mod PageLaws
 pub mod AnswerLaws
+mod ReplyLemmas
 pub mod ViewClaims

@@ -1,5 +1,5 @@
 -- What is due of a text whose page is written, and that nothing of it is refused but its size.
-use Rattle.std.specs.Prelude.{◌≡◌, ℕ, ◌≤◌, Bool, true, false, nat_lt, List, length, Result, Ok, Err, Vec, Option, Some, None}
+use Rattle.std.specs.Prelude.{◌≡◌, ℕ, ◌≤◌, Bool, true, false, nat_lt, List, length, Result, Ok, Err, Vec, Option}
 use Rattle.std.specs.declared.alloc.Global.{Global}
 use Rattle.std.proofs.Common.{arith, cond, refl, sym, ap, ◌∙◌, subst}
 use Rattle.bus_bounds.specs.Bounds.{Bounds}
@@ -10,7 +10,7 @@ use Rattle.bus_regime.specs.Verdicts.{is_accepted, verdict_of}
 use Rattle.bus_outer.specs.declared.sink.Sink.{Ghosts as SinkGhosts}
 use Rattle.bus_command.specs.declared.outcome.Outcome.TheVariants.{TooLarge}
 use Rattle.bus_command.specs.Acts.{Ends}
-use Rattle.bus_command.specs.Causes.{AreTracedWith, RefusesTexts}
+use Rattle.bus_command.specs.Causes.{RefusesTexts}
 use Rattle.bus_command.specs.Due.{outcome_with, text_due}
 use Rattle.bus_command.specs.Kinds.{Answer, kind_of, stage_of}
 use Rattle.bus_command.specs.Outside.{sink_seen}
@@ -18,10 +18,10 @@ use Rattle.bus_command.specs.Readers.{entire, one_source, text_limit}
 use Rattle.bus_command.specs.Steps.{IsText}
 use Rattle.bus_command.proofs.DoLaws.{Agrees}
 use Rattle.bus_page.specs.Pages.{answer_page}
-use Rattle.bus_view.specs.Acts.{IsDoubledAt}
+use Rattle.bus_view.specs.Commands.{Cause}
 use Rattle.bus_view.specs.Due.{IsPage, accepted_outcome, page, page_answer, text_outcome}
 use Rattle.bus_view.specs.Itself.{version_text}
-use Rattle.bus_view.specs.Refusals.{Doubled, Outcome}
+use Rattle.bus_view.specs.Refusals.{Outcome}
 
 -- an answer is written of each text
 pub accepted_answers : (accepted : Bool) → kind_of (accepted_outcome accepted) ≡ Answer
@@ -59,21 +59,18 @@ answer_ends ghosts asked text answer old new o is ends =
     (sym is) ends
 
 -- ---- its cause
-abbrev Causes : Doubled → List ℕ → List ℕ → Type 0
-Causes refusal first second = AreTracedWith (IsDoubledAt refusal) first second
-
-accepted_cause : (accepted : Bool) (first second : List ℕ) → RefusesTexts Causes (accepted_outcome accepted) first second
+accepted_cause : (accepted : Bool) (first second : List ℕ) → RefusesTexts Cause (accepted_outcome accepted) first second
 accepted_cause true first second = tt
 accepted_cause false first second = tt
 
-answer_cause : (answer : Result Table TableError) (first second : List ℕ) → RefusesTexts Causes (text_outcome answer) first second
+answer_cause : (answer : Result Table TableError) (first second : List ℕ) → RefusesTexts Cause (text_outcome answer) first second
 answer_cause (Ok table) first second = accepted_cause (is_accepted (verdict_of table)) first second
 answer_cause (Err error) first second = tt
 
-pub page_cause : (first second : List ℕ) (o : Outcome) → outcome_with page_answer (text_due 1 first) ≡ o → RefusesTexts Causes o first second
+pub page_cause : (first second : List ℕ) (o : Outcome) → outcome_with page_answer (text_due 1 first) ≡ o → RefusesTexts Cause o first second
 page_cause first second o h =
-    subst (λ o. RefusesTexts Causes o first second) h
-    (elim (nat_lt text_limit (length first)) as (λ b. RefusesTexts Causes (outcome_with page_answer (cond b (Err (TooLarge 1)) (Ok first))) first second) [
+    subst (λ o. RefusesTexts Cause o first second) h
+    (elim (nat_lt text_limit (length first)) as (λ b. RefusesTexts Cause (outcome_with page_answer (cond b (Err (TooLarge 1)) (Ok first))) first second) [
       | true ↦ tt
       | false ↦ answer_cause (answer_of first) first second
     ])

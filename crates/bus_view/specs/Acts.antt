@@ -1,34 +1,21 @@
 -- What the program bus629-view does.
-use Rattle.std.specs.Prelude.{◌≡◌, List, Some, String}
+use Rattle.std.specs.Prelude.{List, String}
 use Rattle.std.specs.declared.alloc.Global.{Global}
 use Rattle.bus_outer.specs.declared.sink.Sink.{Ghosts as SinkGhosts}
 use Rattle.bus_outer.specs.declared.source.Source.{Ghosts as SourceGhosts}
-use Rattle.bus_table.specs.Tables.{Table}
-use Rattle.bus_trace.specs.Traces.{Recording}
-use Rattle.bus_dump.specs.Doubled.{doubled}
 use Rattle.bus_command.specs.Acts as command
 use Rattle.bus_command.specs.Acts.{Program}
-use Rattle.bus_command.specs.Causes.{AreTracedWith}
 use Rattle.bus_command.specs.Outside.{Call}
 use Rattle.bus_command.specs.declared.status.Status.{Status}
-use Rattle.bus_view.specs.Due.{form_due, first_refusal, IsFormText}
-use Rattle.bus_view.specs.Forms.{Form, form_of, sources_of, takes_memory}
+use Rattle.bus_view.specs.Commands.{command_of}
+use Rattle.bus_view.specs.Forms.{Form, form_of}
 use Rattle.bus_view.specs.Refusals.{Doubled, Outcome, ends_of, line_of}
 
--- The first entry of a trace that is doubled.
-abbrev pub IsDoubledAt : Doubled → Table → Recording → Type 0
-IsDoubledAt refusal table trace = doubled trace.list ≡ Some refusal.entry
-
--- The program: its forms, what is due of each, what each writes, and how it ends with a refusal of its own.
+-- The program: its forms, the command of each, and how it ends with a refusal of its own.
 abbrev pub view_program : Program Doubled Form
 view_program = record {
   form_of = form_of;
-  sources = sources_of;
-  refusing = first_refusal;
-  memory = takes_memory;
-  due = form_due;
-  IsText = IsFormText;
-  Cause = λ form refusal. AreTracedWith (IsDoubledAt refusal);
+  command = command_of;
   ends = ends_of;
   line = line_of;
 }

@@ -1,4 +1,4 @@
--- What is due for given words and texts: the outcome, where nothing outside fails and memory is granted, and the text of an answer.
+-- What is due of a view's or a page's texts: the outcome, where nothing outside fails and memory is granted, and the text of an answer.
 use Rattle.std.specs.Prelude.{◌≡◌, ℕ, Bool, true, false, List, Option, Some, None, Result, Ok, Err, Vec, unwrap_or}
 use Rattle.std.specs.declared.alloc.Global.{Global}
 use Rattle.bus_bounds.specs.Bounds.{Bounds}
@@ -26,11 +26,9 @@ use Rattle.bus_picture.specs.TimeLines.{time_line_text}
 use Rattle.bus_cycles.specs.CyclesTexts.{cycles_text}
 use Rattle.bus_command.specs.declared.recorded.Recorded.{Recorded}
 use Rattle.bus_command.specs.declared.outcome.Outcome.TheVariants.{Answered, Done}
-use Rattle.bus_command.specs.Due.{table_refusal_of, text_due, recorded_due, outcome_with, IsTextOf}
-use Rattle.bus_command.specs.Stages.{refusal_in}
 use Rattle.bus_page.specs.Pages.{page_text}
-use Rattle.bus_view.specs.Itself.{itself_text, version_text}
-use Rattle.bus_view.specs.Forms.{Form, OnTrace, OnItself, Page, View, Dump, SaveFile, Painted, Judged, Picture, TimeLine, Cycles, hears}
+use Rattle.bus_view.specs.Itself.{version_text}
+use Rattle.bus_view.specs.Forms.{View, Dump, SaveFile, Painted, Judged, Picture, TimeLine, Cycles}
 use Rattle.bus_view.specs.Refusals.{Outcome, refuse}
 
 -- A trace of which no entry is doubled is answered, another refused.
@@ -48,10 +46,6 @@ view_answer (Judged picture bounds window) table trace = Done
 -- The same to what was taken of both texts.
 abbrev pub recorded_answer : View → Recorded → Outcome
 recorded_answer view recorded = view_answer view recorded.table recorded.trace
-
--- The outcome of a view.
-abbrev pub view_due : View → List ℕ → List ℕ → Outcome
-view_due view first second = outcome_with (recorded_answer view) (recorded_due (hears view) first second)
 
 -- The moment of a breach, where an audit found one.
 abbrev pub breach_moment : AuditAnswer → Option ℕ
@@ -117,10 +111,6 @@ IsOfView (Judged picture bounds window) table trace garbled text =
 abbrev pub IsView : View → Recorded → List ℕ → Type 0
 IsView view recorded text = IsOfView view recorded.table recorded.trace recorded.garbled text
 
--- What a view writes of both texts.
-abbrev pub IsViewText : View → List ℕ → List ℕ → List ℕ → Type 0
-IsViewText view first second text = IsTextOf (recorded_answer view) (IsView view) (recorded_due (hears view) first second) text
-
 -- ---- pages
 -- Yes where a table is accepted, else no.
 abbrev pub accepted_outcome : Bool → Outcome
@@ -143,22 +133,3 @@ page asked text = page_text version_text text asked
 -- A text is the page of another.
 abbrev pub IsPage : Option Bounds → List ℕ → List ℕ → Type 0
 IsPage asked first text = text ≡ page asked first
-
--- ---- any form
--- The outcome of a form.
-abbrev pub form_due : Form → List ℕ → List ℕ → Outcome
-form_due (OnTrace view) first second = view_due view first second
-form_due (OnItself about) first second = Done
-form_due (Page asked) first second = outcome_with page_answer (text_due 1 first)
-
--- Why a form refuses the first text, whatever the second is.
-abbrev pub first_refusal : Form → List ℕ → Option Outcome
-first_refusal (OnTrace view) first = table_refusal_of first
-first_refusal (OnItself about) first = None
-first_refusal (Page asked) first = refusal_in (text_due 1 first)
-
--- What a form writes of both texts.
-abbrev pub IsFormText : Form → List ℕ → List ℕ → List ℕ → Type 0
-IsFormText (OnTrace view) first second text = IsViewText view first second text
-IsFormText (OnItself about) first second text = text ≡ itself_text about
-IsFormText (Page asked) first second text = IsTextOf page_answer (IsPage asked) (text_due 1 first) text

@@ -11,7 +11,6 @@ use Rattle.bus_trace.specs.Windows.{Window}
 use Rattle.bus_bounds.specs.Bounds.{Bounds}
 use Rattle.bus_command.specs.About.{about_of}
 use Rattle.bus_command.specs.Bounding.{are_bounds, bounds_of, most_near_delay, near_bounds_of}
-use Rattle.bus_command.specs.Readers.{Named, entire, no_source, one_source, by_recorded}
 pub use Rattle.bus_view.specs.declared.forms.Form.{Form}
 pub use Rattle.bus_view.specs.declared.forms.Form.TheVariants.{OnTrace, OnItself, Page}
 pub use Rattle.bus_view.specs.declared.forms.Picture.{Picture}
@@ -137,15 +136,3 @@ hears (Dump dump window) = false
 hears (SaveFile window) = false
 hears (Painted picture window) = true
 hears (Judged picture bounds window) = true
-
--- The sources that a form names.
-abbrev pub sources_of : Form → Named
-sources_of (OnTrace view) = by_recorded (hears view)
-sources_of (OnItself about) = no_source
-sources_of (Page asked) = one_source entire
-
--- Whether a form takes any memory.
-abbrev pub takes_memory : Form → Bool
-takes_memory (OnTrace view) = true
-takes_memory (OnItself about) = false
-takes_memory (Page asked) = true

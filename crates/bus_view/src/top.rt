@@ -1,7 +1,7 @@
 //! The top call.
 ghost use Rattle.bus_command.specs.Outside.{call};
 ghost use Rattle.bus_view.specs.Acts.{ComesOf};
-ghost use Rattle.bus_view.specs.Claims.{Promises};
+ghost use Rattle.bus_view.specs.Keeping.{Keeps};
 
 use crate::command::act;
 use bus_command::{Status, outcome_text};
@@ -24,7 +24,7 @@ pub fn view<S: Source, K: Sink, E: Sink>(
     err: &mut E,
 ) -> Status
     // Of texts that are right, where nothing outside fails: what each view promises.
-    ensures keeps { Promises (call S.Source K.Sink words.now first.old second.old out.old first.new second.new out.new) result }
+    ensures keeps { Keeps (call S.Source K.Sink words.now first.old second.old out.old first.new second.new out.new) result }
 
     // Of any words and bytes: the outcome that is due or a fault in its place, what was taken and written, what `err` holds, and the
     // status.

@@ -1,10 +1,10 @@
 -- What a step of a command comes to on the way, as private contracts and proofs need it. No public clause cites it.
-use Rattle.std.specs.Prelude.{ℕ, ◌≡◌}
+use Rattle.std.specs.Prelude.{ℕ, ◌≡◌, Bool}
 use Rattle.bus_outer.specs.declared.whole.ReadError.{ReadError}
 use Rattle.bus_outer.specs.declared.whole.ReadError.TheVariants.{Fault, TooLarge as Larger, Memory}
 use Rattle.bus_command.specs.declared.outcome.Outcome.{Outcome}
 use Rattle.bus_command.specs.declared.outcome.Outcome.TheVariants.{ReadFault, NoMemory, TooLarge}
-use Rattle.bus_command.specs.Kinds.{Kind, NoForm, NotRead, TooMuch, Wrong, Late, NotWritten, NoRoom, Answer}
+use Rattle.bus_command.specs.Kinds.{Kind, Point, AtWords, AtSource, BehindBoth, Anywhere, IsSo, row_of}
 use Rattle.bus_command.specs.declared.inputs.Dealt.{Dealt}
 use Rattle.bus_command.specs.Due.{Inputs, hands_in}
 
@@ -14,16 +14,16 @@ read_refusal number Fault = ReadFault number
 read_refusal number Larger = TooLarge number
 read_refusal number Memory = NoMemory
 
--- A kind at which a command may stop behind both texts, before it has written anything.
+-- A point at which a command may stop behind both texts, if it may at all.
+abbrev pub IsPointLate : Bool → Point → Type 0
+IsPointLate early AtWords = ⊥
+IsPointLate early (AtSource source) = ⊥
+IsPointLate early BehindBoth = IsSo early
+IsPointLate early Anywhere = IsSo early
+
+-- A kind at which it may stop there, before it has written anything.
 abbrev pub IsLate : Kind → Type 0
-IsLate NoForm = ⊥
-IsLate (NotRead source) = ⊥
-IsLate (TooMuch source) = ⊥
-IsLate (Wrong source) = ⊥
-IsLate Late = Unit {0}
-IsLate NotWritten = ⊥
-IsLate NoRoom = Unit {0}
-IsLate Answer = ⊥
+IsLate kind = IsPointLate (row_of kind).early (row_of kind).point
 
 -- A table, and the hands that the items give its senders.
 pub record AreInputs (dealt : Dealt) (inputs : Inputs) : Type 0 where

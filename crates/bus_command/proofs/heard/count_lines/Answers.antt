@@ -1,8 +1,8 @@
-use Rattle.std.proofs.Common.{◌≡◌, ℕ, ◌+◌, ◌<◌, Option, Some, None, Result, Ok, Err, take, arith, refl, sym, ap, subst, ◌∙◌}
+use Rattle.std.proofs.Common.{◌≡◌, ℕ, ◌+◌, Some, None, Err, take, arith, refl, sym, ap, subst, ◌∙◌}
 use Rattle.std.proofs.lemmas.Result.{err_from_is_err_and}
 use Rattle.std.specs.Option.{option_map}
 use Rattle.bus_command.specs.Heard.{Line, Last, Garbled, Plain, Other, counted, further, line_of, most_lines}
-use Rattle.bus_command.specs.inside.Looking.{PullFault, TakesLines}
+use Rattle.bus_command.specs.inside.Looking.{TakesLines}
 use Rattle.bus_command.proofs.CountLemmas.{GoesOn, HasCounted, none_counted, more_of, counted_on, decided, too_many, cut_off}
 use Rattle.bus_command.proofs.heard.count_lines.Goals as goal
 use Rattle.bus_command.proofs.heard.count_lines.Goals.{in-Garbled, in-Plain}

@@ -1,10 +1,9 @@
-use Rattle.std.proofs.Common.{◌≡◌, ◌+◌, ◌≤◌, List, ℕ, [], ◌++◌, IfSome, length, take, arith, refl, sym, ap, subst, ◌∙◌}
+use Rattle.std.proofs.Common.{◌≡◌, ◌≤◌, [], ◌++◌, IfSome, length, take, arith, refl, sym, subst, ◌∙◌}
 use Rattle.std.proofs.lemmas.List.{length-take}
-use Rattle.std.proofs.lemmas.Slice.{overwrites}
 use Rattle.bus_outer.specs.Sources.{Taken}
 use Rattle.bus_outer.proofs.WriteLaws.{taken_on}
 use Rattle.bus_command.specs.Heard.{next_line}
-use Rattle.bus_command.proofs.LineLemmas.{piece_put, goes_on, ends, full_line, last_line, part_line, rest_of, rest_is, none_left, unfed, piece_fits, nothing_more, room_kept}
+use Rattle.bus_command.proofs.LineLemmas.{piece_put, goes_on, ends, full_line, last_line, part_line, rest_of, rest_is, unfed, piece_fits, nothing_more, room_kept}
 use Rattle.bus_command.proofs.heard.take_line.Goals as goal
 
 pub pieces-preserved : goal.pieces-preserved

@@ -1,4 +1,4 @@
-use Rattle.bus_tool.proofs.KeptPromises.{keeps}
+use Rattle.bus_tool.proofs.KeptPromises.{keeps, spells}
 use Rattle.bus_tool.proofs.BorneLemmas.{TurnsLaws}
 use Rattle.bus_tool.proofs.GroupClaims.{ReadLaws}
 use Rattle.bus_tool.proofs.MarginsClaim.{MarginsLaws}
@@ -124,3 +124,24 @@ returns-clause-keeps g c =
         };
       };
     }) _ c.act-outcome.result c.act-outcome.ensures)
+
+pub returns-clause-spells : goal.returns-clause-spells
+returns-clause-spells g c =
+    let texts : ReadLaws = record {
+      table_again = c.text_reads_as_its_table.ensures;
+      items_again = c.texts_read_as_their_items.ensures.again;
+      trace_back = c.traces_read_back.ensures.back;
+    } in
+    spells (record {
+      text_stands = c.canonical_text_reads_as_its_table.ensures.stands;
+      plans = c.answers_are_right.ensures.plan;
+      best = c.answers_are_right.ensures.best;
+    }) (record {
+      texts = texts;
+      passes = c.waves_tell_traces.ensures.passes;
+      one = c.waves_tell_traces.ensures.texts;
+      back = c.waves_tell_traces.ensures.back;
+      tell = c.waves_tell_traces.ensures.tell;
+      runs = c.runs_are_spaced.ensures.spaced;
+      read = c.runs_are_spaced.ensures.waves;
+    }) _
