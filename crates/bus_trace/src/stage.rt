@@ -2,7 +2,7 @@
 use crate::reason::TraceReason;
 
 /// Whether a reader takes more.
-#[derive(Clone, Copy, Debug, PartialEq, Eq)]
+#[derive(Drop)]
 pub(crate) enum Stage {
     /// Nothing is decided yet.
     Open,

@@ -16,7 +16,6 @@ use std::alloc::{AllocError, Global};
 use std::marker::Model;
 
 /// What the bytes of one line gave.
-#[derive(Clone, Copy)]
 pub(crate) enum Judged {
     Passes,
     Ends,
@@ -24,7 +23,7 @@ pub(crate) enum Judged {
 }
 
 /// What a piece gave.
-#[derive(Clone, Copy)]
+#[derive(Drop)]
 pub(crate) enum Walked {
     Passed,
     Ended { used: usize },
