@@ -34,7 +34,7 @@ use Rattle.bus_trace.specs.States.{is_closed, starts_wrong, turns_wrong, told_li
 use Rattle.bus_trace.specs.States.{more_list, head_step, horizon_step}
 use Rattle.bus_trace.specs.States.{hold_step, begin_step, string_step, close_step, end_step, fields_step}
 use Rattle.bus_trace.specs.Runs.{Found, begin, run}
-use Rattle.bus_trace.proofs.Lasts.{with_last, count_last, end_push, end_most}
+use Rattle.bus_trace.proofs.Lasts.{of_last_push, with_last, end_most}
 use Rattle.bus_trace.proofs.Orders.{after_front, terminals_rest, last_precedes}
 use Rattle.bus_trace.proofs.Told.{lines_whole}
 use Rattle.bus_trace.proofs.Marks.{mark_again, turned, started_last, started_next, hit_push}
@@ -237,12 +237,14 @@ strings_again : (g : Format) (mark : Bool) (h : ℕ) (hs : List Hold) (xs : List
 strings_again g mark h hs xs m n done [] few f = ap (λ (ws : List Wordstring). at_position Stringing g mark h hs
     (xs ++ record { moment = m; terminal = n; message = ws } ∷ [])) (sym (append-nil done))
 strings_again g mark h hs xs m n done (w ∷ left) few f =
-    let now : List Entry = xs ++ record { moment = m; terminal = n; message = done } ∷ [] in
+    let entry : Entry = record { moment = m; terminal = n; message = done } in
+    let now : List Entry = xs ++ entry ∷ [] in
     let next : List Entry = xs ++ record { moment = m; terminal = n; message = done ++ w ∷ [] } ∷ [] in
     let last : List Entry = xs ++ record { moment = m; terminal = n; message = done ++ w ∷ left } ∷ [] in
     let one = subst (λ (ys : List Entry). Leads (at_position Stringing g mark h hs now) (string_line w ∷ [])
     (at_position Stringing g mark h hs ys)) (with_last w xs m n done)
-    (string_line_again Stringing g mark h hs now w (lt-ltb (last_count now) 31 (omega (arith, count_last xs m n done, few))) f.0) in
+    (string_line_again Stringing g mark h hs now w
+    (lt-ltb (last_count now) 31 (omega (arith, of_last_push (λ (x : Entry). length x.message) xs entry, few))) f.0) in
     let others = subst (λ (ws : List Wordstring). Leads (at_position Stringing g mark h hs next) (map string_line left)
     (at_position Stringing g mark h hs (xs ++ record { moment = m; terminal = n; message = ws } ∷ [])))
     (append_assoc done (w ∷ []) left) (strings_again g mark h hs xs m n (done ++ w ∷ []) left
@@ -311,7 +313,7 @@ marked_again old mark h hs done x k b after fine right =
     leads_append (at_position (last_position Two done) Two old h hs done) (at_position Stringing Two old h hs (done ++ x ∷ []))
     (at_position Closed Two mark h hs (done ++ x ∷ [])) (entry_lines x) (close_line x mark ∷ [])
     (entry_again (last_position Two done) Two old h hs done x k (may_begin Two done (last_count done)) b after fine)
-    (close_again mark old h hs (done ++ x ∷ []) x (end_push done x) (end_most x b.message (omega (arith, b.moment, k))) right)
+    (close_again mark old h hs (done ++ x ∷ []) x (of_last_push end_of done x) (end_most x b.message (omega (arith, b.moment, k))) right)
 
 told_again : (old mark : Bool) (h : ℕ) (hs : List Hold) (done : List Entry) (x : Entry) (left : List Entry) → h ≤ horizon_limit
     → AllByRecursion (IsBelow h) (x ∷ left) → IsAscending (done ++ x ∷ left)
@@ -329,7 +331,7 @@ told_again old mark h hs done x (y ∷ left) k f order fine e =
     let own : Bool = ends_behind x.moment done || nat_lt y.moment (end_of x) in
     let met : turns_wrong own (is_hit now) (nat_lt y.moment (last_end now)) ≡ false =
     ap (λ b. turns_wrong own b (nat_lt y.moment (last_end now))) (hit_push done x)
-    ∙ ap (λ n. turns_wrong own (ends_behind x.moment done) (nat_lt y.moment n)) (end_push done x)
+    ∙ ap (λ n. turns_wrong own (ends_behind x.moment done) (nat_lt y.moment n)) (of_last_push end_of done x)
     ∙ turned (ends_behind x.moment done) (nat_lt y.moment (end_of x)) in
     let here : last_position Two now ≡ Closed = closed_push done x in
     let rest : Leads (at_position (last_position Two now) Two own h hs now) (told_lines now (Some mark) (y ∷ left))
@@ -377,11 +379,13 @@ opening_again f t i =
     (horizon_line t.horizon ∷ []) (map hold_line t.holds) (horizon_again f t.horizon i.horizon)
     (holds_again f t.horizon [] t.holds i.holds i.terminals))
 
-body_again : (f : Format) (t : Recording) → IsTrace t → Leads start (body_lines f (Some (last_mark f t.list)) t.horizon t.holds t.list)
-    (at_position (last_position f t.list) f (last_mark f t.list) t.horizon t.holds t.list)
+-- the state behind the lines of a trace before END
+abbrev pub unended : Format → Recording → State
+unended f t = at_position (last_position f t.list) f (last_mark f t.list) t.horizon t.holds t.list
+
+body_again : (f : Format) (t : Recording) → IsTrace t → Leads start (body_lines (Some (last_mark f t.list)) (unended f t)) (unended f t)
 body_again f t i =
-    leads_append start (holding f t.horizon t.holds) (at_position (last_position f t.list) f
-    (last_mark f t.list) t.horizon t.holds t.list) (opening_lines f t.horizon t.holds)
+    leads_append start (holding f t.horizon t.holds) (unended f t) (opening_lines f t.horizon t.holds)
     (lines_so_far f (Some (last_mark f t.list)) t.list)
     (opening_again f t i) (whole_list f t.horizon t.holds t.list i.horizon i.list i.order)
 
@@ -424,8 +428,8 @@ ended f t = at_position Ended f (last_mark f t.list) t.horizon t.holds t.list
 pub trace_again : NeighboursTell → AscendingIsByMoment → (f : Format) (t : Recording) (rest : List ℕ) → IsTrace t
     → run begin (text_in f t ++ rest) ≡ Found (ended f t)
 trace_again law by f t rest i =
-    let s : State = at_position (last_position f t.list) f (last_mark f t.list) t.horizon t.holds t.list in
-    let body : List Line = body_lines f (Some (last_mark f t.list)) t.horizon t.holds t.list in
+    let s : State = unended f t in
+    let body : List Line = body_lines (Some (last_mark f t.list)) s in
     let lines : opening_lines f t.horizon t.holds ++ list_lines f t.list ≡ body =
     ap (λ ls. opening_lines f t.horizon t.holds ++ ls) (sym
     (lines_whole law by f t.horizon t.list (last_mark f t.list) i.order i.list (right_mark f t.list))) in

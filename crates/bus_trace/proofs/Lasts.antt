@@ -2,33 +2,25 @@
 use Rattle.std.proofs.Common.{arith, zero, suc, ◌≡◌, ℕ, ◌<◌, ◌≤◌, ◌^◌, List, [], ◌∷◌, ◌++◌, length, get_or, set, refl, sym, ap}
 use Rattle.std.proofs.Common.{◌∙◌}
 use Rattle.bus_strings.specs.Messages.{Wordstring, Entry}
-use Rattle.bus_trace.specs.declared.hold.Hold.{Hold}
 use Rattle.std.specs.List.{AllByRecursion}
 use Rattle.bus_strings.specs.Messages.{Message, IsMessage, bits}
 use Rattle.bus_strings.specs.Transmissions.{end_of}
 use Rattle.bus_strings.proofs.KeptLemmas.{words_most}
 use Rattle.bus_trace.specs.Traces.{IsBelow}
-use Rattle.bus_trace.specs.States.{last_terminal, last_count, is_after, comes_after, with_string, last_moment, last_sender, last_end}
-use Rattle.bus_trace.specs.States.{earlier}
+use Rattle.bus_trace.specs.States.{of_last, last_end, earlier, is_after, comes_after, with_string}
 
-pub last_is : (hs : List Hold) (i : ℕ) (h : Hold) → suc i ≡ length hs → h ≡ get_or hs i h → last_terminal hs ≡ h.terminal
-last_is [] i h e k = absurd (omega arith)
-last_is (c ∷ []) zero h e k = ap (λ (d : Hold). d.terminal) (sym k)
-last_is (c ∷ []) (suc i) h e k = absurd (omega arith)
-last_is (c ∷ d ∷ hs) zero h e k = absurd (omega arith)
-last_is (c ∷ d ∷ hs) (suc i) h e k = last_is (d ∷ hs) i h (omega arith) k
+pub of_last_is : {X : Type 0} (number : X → ℕ) (xs : List X) (i : ℕ) (x : X) → suc i ≡ length xs → x ≡ get_or xs i x
+    → of_last number xs ≡ number x
+of_last_is number [] i x e k = absurd (omega arith)
+of_last_is number (c ∷ []) zero x e k = ap number (sym k)
+of_last_is number (c ∷ []) (suc i) x e k = absurd (omega arith)
+of_last_is number (c ∷ d ∷ xs) zero x e k = absurd (omega arith)
+of_last_is number (c ∷ d ∷ xs) (suc i) x e k = of_last_is number (d ∷ xs) i x (omega arith) k
 
-pub last_of_append : (hs : List Hold) (h : Hold) → last_terminal (hs ++ h ∷ []) ≡ h.terminal
-last_of_append [] h = refl
-last_of_append (x ∷ []) h = refl
-last_of_append (x ∷ y ∷ hs) h = last_of_append (y ∷ hs) h
-
-pub last_count_is : (xs : List Entry) (i : ℕ) (x : Entry) → suc i ≡ length xs → x ≡ get_or xs i x → last_count xs ≡ length x.message
-last_count_is [] i x e k = absurd (omega arith)
-last_count_is (c ∷ []) zero x e k = ap (λ (d : Entry). length d.message) (sym k)
-last_count_is (c ∷ []) (suc i) x e k = absurd (omega arith)
-last_count_is (c ∷ d ∷ xs) zero x e k = absurd (omega arith)
-last_count_is (c ∷ d ∷ xs) (suc i) x e k = last_count_is (d ∷ xs) i x (omega arith) k
+pub of_last_push : {X : Type 0} (number : X → ℕ) (xs : List X) (x : X) → of_last number (xs ++ x ∷ []) ≡ number x
+of_last_push number [] x = refl
+of_last_push number (y ∷ []) x = refl
+of_last_push number (y ∷ z ∷ xs) x = of_last_push number (z ∷ xs) x
 
 pub last_after_is : (xs : List Entry) (i : ℕ) (x : Entry) (m n : ℕ) → suc i ≡ length xs → x ≡ get_or xs i x
     → is_after xs m n ≡ comes_after x m n
@@ -40,14 +32,9 @@ last_after_is (c ∷ d ∷ xs) (suc i) x m n e k = last_after_is (d ∷ xs) i x 
 
 -- the last is set to what it was, with a wordstring more
 pub set_last : (xs : List Entry) (i : ℕ) (x : Entry) (w : Wordstring) → suc i ≡ length xs → x ≡ get_or xs i x
-    → set xs i (record { moment = x.moment; terminal = x.terminal; message = x.message ++ w ∷ [] }) ≡ with_string w xs
+    → set xs i (record x { message = x.message ++ w ∷ [] }) ≡ with_string w xs
 set_last [] i x w e k = absurd (omega arith)
-set_last (c ∷ []) zero x w e k = ap (λ (d : Entry). record {
-  moment = d.moment;
-  terminal = d.terminal;
-  message =
-      d.message ++ w ∷ [];
-} ∷ []) k
+set_last (c ∷ []) zero x w e k = ap (λ (d : Entry). record d { message = d.message ++ w ∷ [] } ∷ []) k
 set_last (c ∷ []) (suc i) x w e k = absurd (omega arith)
 set_last (c ∷ d ∷ xs) zero x w e k = absurd (omega arith)
 set_last (c ∷ d ∷ xs) (suc i) x w e k = ap (λ us. c ∷ us) (set_last (d ∷ xs) i x w (omega arith) k)
@@ -58,7 +45,7 @@ pub set_last_string : (xs : List Entry) (i moment terminal : ℕ) (old new : Lis
     → set xs i (record { moment = moment; terminal = terminal; message = new }) ≡ with_string w xs
 set_last_string xs i moment terminal old new x w e k view n =
     ap (λ (ws : List Wordstring). set xs i (record { moment = moment; terminal = terminal; message = ws })) n
-    ∙ ap (λ (d : Entry). set xs i (record { moment = d.moment; terminal = d.terminal; message = d.message ++ w ∷ [] })) view
+    ∙ ap (λ (d : Entry). set xs i (record d { message = d.message ++ w ∷ [] })) view
     ∙ set_last xs i x w e k
 
 -- a wordstring more of a transmission that was just begun, or goes on
@@ -73,58 +60,16 @@ with_last w [] m n ws = refl
 with_last w (x ∷ []) m n ws = refl
 with_last w (x ∷ y ∷ xs) m n ws = ap (λ us. x ∷ us) (with_last w (y ∷ xs) m n ws)
 
-pub count_last : (xs : List Entry) (m n : ℕ) (ws : List Wordstring)
-    → last_count (xs ++ record { moment = m; terminal = n; message = ws } ∷ []) ≡ length ws
-count_last [] m n ws = refl
-count_last (x ∷ []) m n ws = refl
-count_last (x ∷ y ∷ xs) m n ws = count_last (y ∷ xs) m n ws
-
 pub length-with_string : (w : Wordstring) (xs : List Entry) → length (with_string w xs) ≡ length xs
 length-with_string w [] = refl
 length-with_string w (x ∷ []) = refl
 length-with_string w (x ∷ y ∷ xs) = ap suc (length-with_string w (y ∷ xs))
-
-pub last_moment_is : (xs : List Entry) (i : ℕ) (x : Entry) → suc i ≡ length xs → x ≡ get_or xs i x → last_moment xs ≡ x.moment
-last_moment_is [] i x e k = absurd (omega arith)
-last_moment_is (c ∷ []) zero x e k = ap (λ (d : Entry). d.moment) (sym k)
-last_moment_is (c ∷ []) (suc i) x e k = absurd (omega arith)
-last_moment_is (c ∷ d ∷ xs) zero x e k = absurd (omega arith)
-last_moment_is (c ∷ d ∷ xs) (suc i) x e k = last_moment_is (d ∷ xs) i x (omega arith) k
-
-pub last_sender_is : (xs : List Entry) (i : ℕ) (x : Entry) → suc i ≡ length xs → x ≡ get_or xs i x → last_sender xs ≡ x.terminal
-last_sender_is [] i x e k = absurd (omega arith)
-last_sender_is (c ∷ []) zero x e k = ap (λ (d : Entry). d.terminal) (sym k)
-last_sender_is (c ∷ []) (suc i) x e k = absurd (omega arith)
-last_sender_is (c ∷ d ∷ xs) zero x e k = absurd (omega arith)
-last_sender_is (c ∷ d ∷ xs) (suc i) x e k = last_sender_is (d ∷ xs) i x (omega arith) k
-
-pub last_end_is : (xs : List Entry) (i : ℕ) (x : Entry) → suc i ≡ length xs → x ≡ get_or xs i x → last_end xs ≡ end_of x
-last_end_is [] i x e k = absurd (omega arith)
-last_end_is (c ∷ []) zero x e k = ap (λ (d : Entry). end_of d) (sym k)
-last_end_is (c ∷ []) (suc i) x e k = absurd (omega arith)
-last_end_is (c ∷ d ∷ xs) zero x e k = absurd (omega arith)
-last_end_is (c ∷ d ∷ xs) (suc i) x e k = last_end_is (d ∷ xs) i x (omega arith) k
 
 -- the last of a list that has one more
 pub earlier_push : (xs : List Entry) (x : Entry) → earlier (xs ++ x ∷ []) ≡ xs
 earlier_push [] x = refl
 earlier_push (y ∷ []) x = refl
 earlier_push (y ∷ z ∷ xs) x = ap (λ ys. y ∷ ys) (earlier_push (z ∷ xs) x)
-
-pub moment_push : (xs : List Entry) (x : Entry) → last_moment (xs ++ x ∷ []) ≡ x.moment
-moment_push [] x = refl
-moment_push (y ∷ []) x = refl
-moment_push (y ∷ z ∷ xs) x = moment_push (z ∷ xs) x
-
-pub sender_push : (xs : List Entry) (x : Entry) → last_sender (xs ++ x ∷ []) ≡ x.terminal
-sender_push [] x = refl
-sender_push (y ∷ []) x = refl
-sender_push (y ∷ z ∷ xs) x = sender_push (z ∷ xs) x
-
-pub end_push : (xs : List Entry) (x : Entry) → last_end (xs ++ x ∷ []) ≡ end_of x
-end_push [] x = refl
-end_push (y ∷ []) x = refl
-end_push (y ∷ z ∷ xs) x = end_push (z ∷ xs) x
 
 pub earlier_with : (w : Wordstring) (xs : List Entry) → earlier (with_string w xs) ≡ earlier xs
 earlier_with w [] = refl

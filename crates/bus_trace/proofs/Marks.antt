@@ -18,7 +18,7 @@ use Rattle.bus_trace.specs.States.{ends_behind, earlier, last_moment, last_sende
 use Rattle.bus_trace.specs.States.{may_follow, is_closed, is_mark, mark_of, starts_wrong, turns_wrong}
 use Rattle.bus_trace.specs.inside.Sound.{PositionFits, MarkIs, MarkFits}
 use Rattle.bus_trace.specs.inside.Reach.{IsReach}
-use Rattle.bus_trace.proofs.Lasts.{earlier_push, earlier_with, moment_push, sender_push}
+use Rattle.bus_trace.proofs.Lasts.{of_last_push, earlier_push, earlier_with}
 
 -- ---- fields
 pub mark_is : (f : List ℕ) → is_mark f ≡ true → mark_text (mark_of f) ≡ f
@@ -96,7 +96,7 @@ not_final m t h n (inr k) = ap (λ b. m + 1 == h && b) (let e : (t == n) ≡ fal
   no false = refl
 
 pub hit_push : (done : List Entry) (x : Entry) → is_hit (done ++ x ∷ []) ≡ ends_behind x.moment done
-hit_push done x = ap (λ m. ends_behind m (earlier (done ++ x ∷ []))) (moment_push done x) ∙ ap (ends_behind x.moment) (earlier_push done x)
+hit_push done x = ap (λ m. ends_behind m (earlier (done ++ x ∷ []))) (of_last_push (λ (y : Entry). y.moment) done x) ∙ ap (ends_behind x.moment) (earlier_push done x)
 
 -- behind an entry that another follows
 pub started_next : (h : ℕ) (done : List Entry) (x y : Entry) → Precedes x y → y.moment < h → y.terminal ≤ 128
@@ -104,8 +104,8 @@ pub started_next : (h : ℕ) (done : List Entry) (x y : Entry) → Precedes x y 
 started_next h done x y p below low =
     ap (λ b. starts_wrong (ends_behind x.moment done || nat_lt y.moment (end_of x)) b (is_final h (done ++ x ∷ []))) (hit_push done x)
     ∙ started (ends_behind x.moment done) (nat_lt y.moment (end_of x)) (is_final h (done ++ x ∷ []))
-    (λ _. ap (λ m. m + 1 == h && last_sender (done ++ x ∷ []) == 128) (moment_push done x)
-    ∙ ap (λ t. x.moment + 1 == h && t == 128) (sender_push done x)
+    (λ _. ap (λ m. m + 1 == h && last_sender (done ++ x ∷ []) == 128) (of_last_push (λ (y : Entry). y.moment) done x)
+    ∙ ap (λ t. x.moment + 1 == h && t == 128) (of_last_push (λ (y : Entry). y.terminal) done x)
     ∙ not_final x.moment x.terminal h 128 (room p)) where
       room : Precedes x y → (x.moment + 1 < h) ⊎ (x.terminal < 128)
       room (inl k) = inl (omega (arith, k, below))

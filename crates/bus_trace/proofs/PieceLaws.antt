@@ -20,7 +20,7 @@ use Rattle.bus_trace.specs.Traces.{Recording, Line, IsTraceText, HoldsTrace}
 use Rattle.bus_trace.specs.States.{State, lines_of, text_of, recorded}
 use Rattle.bus_trace.specs.inside.Sound.{IsSound}
 use Rattle.bus_trace.specs.Runs.{Standing, Progress, Going, Found, Refused, Over, judged, take_byte, ◌>>-◌, run, begin, due}
-use Rattle.bus_trace.specs.Runs.{due_by, stream_of}
+use Rattle.bus_trace.specs.Runs.{due_by, stream_of, behind}
 use Rattle.bus_trace.specs.Reading.{Offends, Complete, Overlong}
 use Rattle.bus_trace.specs.Feeding.{Reader, ReaderIs}
 use Rattle.bus_trace.specs.inside.Feeds.{FeedGives, FinishGives}
@@ -120,14 +120,14 @@ refused_at xs byte reason h =
     }
 
 pub offends_refused : (front : List ℕ) (byte : ℕ) (reason : TraceReason) → Offends front byte reason → run begin front ≡ Refused byte reason
-offends_refused front byte reason (Complete before lines line p b g f l h) =
-    ap (run begin) p ∙ run-append begin lines (line ++ 10 ∷ []) ∙ ap (λ o. o >>- λ m. run m (line ++ 10 ∷ [])) g.run
-    ∙ run-whole_line (record { state = before; line = [] }) line f (omega (arith, l)) ∙ ap (judged before) h
-    ∙ ap (λ n. Refused n reason) (sym (ap length g.text) ∙ sym b)
-offends_refused front byte reason (Overlong before lines line p b g f l e) =
-    ap (run begin) p ∙ run-append begin lines line ∙ ap (λ o. o >>- λ m. run m line) g.run
-    ∙ run-long (record { state = before; line = [] }) line f (omega arith) (omega (arith, l))
-    ∙ ap (λ n. Refused n Long) (sym (ap length g.text) ∙ sym b) ∙ ap (λ (x : TraceReason). Refused byte x) (sym e)
+offends_refused front byte reason (Complete at p short h) =
+    ap (run begin) p ∙ run-append begin at.lines (at.line ++ 10 ∷ []) ∙ ap (λ o. o >>- λ m. run m (at.line ++ 10 ∷ [])) at.gave.run
+    ∙ run-whole_line (behind at.before) at.line at.feedless (omega (arith, short)) ∙ ap (judged at.before) h
+    ∙ ap (λ n. Refused n reason) (sym (ap length at.gave.text) ∙ sym at.place)
+offends_refused front byte reason (Overlong at p long e) =
+    ap (run begin) p ∙ run-append begin at.lines at.line ∙ ap (λ o. o >>- λ m. run m at.line) at.gave.run
+    ∙ run-long (behind at.before) at.line at.feedless (omega arith) (omega (arith, long))
+    ∙ ap (λ n. Refused n Long) (sym (ap length at.gave.text) ∙ sym at.place) ∙ ap (λ (x : TraceReason). Refused byte x) (sym e)
 
 pub refused_due : (xs : List ℕ) (byte : ℕ) (reason : TraceReason) → IsRefusedAt xs byte reason → due trace_limit xs ≡ Refused byte reason
 unfolding due

@@ -16,8 +16,8 @@ use Rattle.bus_trace.specs.Limits.{line_limit, trace_limit}
 use Rattle.bus_trace.specs.Traces.{Recording, IsTrace, HoldsTrace, text_in}
 use Rattle.bus_trace.specs.States.{State, step, text_of, is_ended, recorded}
 use Rattle.bus_trace.specs.Runs.{Standing, Progress, Going, Found, Refused, Over, judged, take_byte, ◌>>-◌, run, begin, due, due_by}
-use Rattle.bus_trace.specs.Runs.{ended_by, reading, stream_of}
-use Rattle.bus_trace.specs.Reading.{Gave, Offends, Complete, Overlong, Refuses, ByLine as Decided, CutOff, TakesTrace, ReadGives}
+use Rattle.bus_trace.specs.Runs.{ended_by, reading, stream_of, HasNoFeed}
+use Rattle.bus_trace.specs.Reading.{LineAt, Offends, Complete, Overlong, Refuses, ByLine as Decided, CutOff, TakesTrace, ReadGives}
 use Rattle.bus_trace.specs.inside.Looping.{LineRefused, ByLine, ByEnd, Loops}
 use Rattle.bus_trace.proofs.Runs.{run-append}
 use Rattle.bus_trace.proofs.Walks.{start_sound}
@@ -41,8 +41,16 @@ undecided_is limit bytes at h =
     let g = run_goes begin at bytes start_sound begin_stands going in
     record { going = going; stands = g.stands; stream = g.stream ∙ begin_stream bytes; short = short }
 
-gave_is : (s : State) (r : Standing) → r.state ≡ s → Stands r → Gave (text_of s) s
-gave_is s r e i = subst (λ (t : State). Gave (text_of t) t) e (record { text = refl; run = i.gave })
+-- a line that begins behind the whole lines of a standing
+abbrev line_at : (r : Standing) (byte : ℕ) (line : List ℕ) → Stands r → byte ≡ length (text_of r.state) → HasNoFeed line → LineAt byte
+line_at r byte line i e feedless = record {
+  before = r.state;
+  lines = text_of r.state;
+  line = line;
+  gave = record { text = refl; run = i.gave };
+  place = e;
+  feedless = feedless;
+}
 
 -- ---- the byte that decides
 back : (o : Progress) → (o >>- λ n. run n []) ≡ o
@@ -84,8 +92,7 @@ refuses_judged r byte reason (Ok m) i e h = by_end (is_ended m.position) h where
 refuses_judged r byte reason (Err why) i e h =
     let length_is : length (text_of r.state) ≡ byte = cc in
     let why_is : why ≡ reason = cc in
-    Complete r.state (text_of r.state) r.line (append_assoc (text_of r.state) r.line (10 ∷ [])) (sym length_is)
-    (gave_is r.state r refl i) i.feedless i.short (e ∙ ap (λ (x : TraceReason). Err x) why_is)
+    Complete (line_at r byte r.line i (sym length_is) i.feedless) (append_assoc (text_of r.state) r.line (10 ∷ [])) i.short (e ∙ ap (λ (x : TraceReason). Err x) why_is)
 
 pub refuses_byte : (r : Standing) (b : ℕ) (byte : ℕ) (reason : TraceReason) → Stands r → take_byte r b ≡ Refused byte reason
     → Offends (stream_of r ++ b ∷ []) byte reason
@@ -101,8 +108,8 @@ refuses_byte r b byte reason i h = by_feed (is_feed b) refl (nat_lt (length r.li
   by_feed false e false f q =
       let length_is : length (text_of r.state) ≡ byte = cc in
       let why : Long ≡ reason = cc in
-      Overlong r.state (text_of r.state) (r.line ++ b ∷ []) (append_assoc (text_of r.state) r.line (b ∷ [])) (sym length_is)
-      (gave_is r.state r refl i) (feedless_push r.line b i.feedless e)
+      Overlong (line_at r byte (r.line ++ b ∷ []) i (sym length_is) (feedless_push r.line b i.feedless e))
+      (append_assoc (text_of r.state) r.line (b ∷ []))
       (omega (arith, length-append r.line (b ∷ []), i.short, ltb-false (length r.line) line_limit f)) (sym why)
 
 -- what a decided refusal says of the bytes
@@ -144,8 +151,7 @@ refused_takes old new bytes byte reason t (ByEnd at d e b r) =
       bytes = bytes;
       came = t;
       known = (
-        CutOff at.state (text_of at.state) at.line (sym u.stream) b
-            (gave_is at.state at refl u.stands) u.stands.feedless u.stands.short e r,
+        CutOff (line_at at byte at.line u.stands b u.stands.feedless) (sym u.stream) u.stands.short e r,
         u.short,
       );
     }

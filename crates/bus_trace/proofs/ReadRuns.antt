@@ -101,7 +101,7 @@ unfolding text_of
 ended_text laws s sound h =
     let p = end_is s.position h in
     let marked = ended_is s.format s.mark s.list (subst (λ q. MarkFits q s.format s.mark s.list) p sound.marked) in
-    ap (λ q. text_of (record { position = q; format = s.format; mark = s.mark; horizon = s.horizon; holds = s.holds; list = s.list })) p
+    ap (λ q. text_of (record s { position = q })) p
     ∙ ap (λ (ls : List Line). spelled_lines ((opening_lines s.format s.horizon s.holds ++ ls) ++ end_line ∷ []))
     (lines_whole laws.neighbours laws.ascending s.format s.horizon s.list s.mark sound.trace.order sound.trace.list marked)
 

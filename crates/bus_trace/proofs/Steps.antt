@@ -1,5 +1,5 @@
 -- What a step adds to the text.
-use Rattle.std.proofs.Common.{arith, ◌≡◌, ℕ, ◌<◌, Bool, true, false, cond, ◌&&◌, ◌||◌, ◌==◌, List, [], ◌∷◌}
+use Rattle.std.proofs.Common.{arith, ◌≡◌, ℕ, ◌<◌, Bool, true, false, not, cond, ◌&&◌, ◌||◌, ◌==◌, List, [], ◌∷◌}
 use Rattle.std.proofs.Common.{◌++◌, length, codes, nat_lt, Option, Some, None, Result, Ok, Err, refl, sym, ap, subst, ◌∙◌}
 use Rattle.std.proofs.Common.{append_assoc, append-nil, length-append, drop, map}
 use Rattle.std.specs.List.{flat_map, AllByRecursion}
@@ -30,7 +30,7 @@ use Rattle.bus_trace.specs.Limits.{most_count, most_fields}
 use Rattle.bus_trace.specs.Traces.{Line, IsHold, IsBelow, format_text, head_line, horizon_line, hold_line, begin_line, string_line}
 use Rattle.bus_trace.specs.Traces.{entry_lines, ended_line, end_line, opening_lines}
 use Rattle.bus_trace.specs.WordFields.{are_spelled, have_parity, string_of}
-use Rattle.bus_trace.specs.States.{State, lines_so_far, body_lines, lines_at, lines_of, text_of}
+use Rattle.bus_trace.specs.States.{State, is_marked, lines_so_far, body_lines, lines_at, lines_of, text_of}
 use Rattle.bus_trace.specs.inside.Sound.{IsSound, PositionFits, MarkFits}
 use Rattle.bus_trace.specs.States.{keyword_of, last_count, may_follow, spaced_fields, field, is_number, number, last_terminal, last_end}
 use Rattle.bus_trace.specs.States.{is_after, is_hit, is_final, is_refuted, is_mark, mark_of, starts_wrong, with_string, more_list}
@@ -110,17 +110,19 @@ close_at Stringing Two n h = (refl, refl)
 close_at Closed f n h = absurd cc
 close_at Ended f n h = absurd cc
 
+unmarked_lines : (f : Format) (mark : Bool) (xs : List Entry) → not (is_marked f) ≡ true → lines_so_far f None xs ≡ lines_so_far f (Some mark) xs
+unmarked_lines One mark xs e = refl
+unmarked_lines Two mark xs e = absurd cc
+
 -- the lines of a position behind which TX may stand, and END alike
-body_at : (p : Position) (f : Format) (mark : Bool) (n h : ℕ) (hs : List Hold) (xs : List Entry) → may_follow p f n keyword.Tx ≡ true
-    → lines_at p f mark h hs xs ≡ body_lines f (Some mark) h hs xs
-body_at Start f mark n h hs xs e = absurd cc
-body_at Headed f mark n h hs xs e = absurd cc
-body_at Holding f mark n h hs xs e = refl
-body_at (Begun m t) f mark n h hs xs e = absurd cc
-body_at Stringing One mark n h hs xs e = refl
-body_at Stringing Two mark n h hs xs e = absurd cc
-body_at Closed f mark n h hs xs e = refl
-body_at Ended f mark n h hs xs e = absurd cc
+body_at : (p : Position) (s : State) (n : ℕ) → may_follow p s.format n keyword.Tx ≡ true → lines_at p s ≡ body_lines (Some s.mark) s
+body_at Start s n e = absurd cc
+body_at Headed s n e = absurd cc
+body_at Holding s n e = refl
+body_at (Begun m t) s n e = absurd cc
+body_at Stringing s n e = ap (λ ls. opening_lines s.format s.horizon s.holds ++ ls) (unmarked_lines s.format s.mark s.list e)
+body_at Closed s n e = refl
+body_at Ended s n e = absurd cc
 
 end_at : (p : Position) (f : Format) (n : ℕ) → may_follow p f n keyword.End ≡ true → may_follow p f n keyword.Tx ≡ true
 end_at Start f n h = absurd cc
@@ -137,23 +139,25 @@ none_so_far One o = refl
 none_so_far Two o = refl
 
 -- the lines of no transmissions
-none_lines : (f : Format) (o : Option Bool) (h : ℕ) (hs : List Hold) (xs : List Entry) → xs ≡ []
-    → body_lines f o h hs xs ≡ opening_lines f h hs
-none_lines f o h hs xs none = ap (λ ys. opening_lines f h hs ++ lines_so_far f o ys) none
-    ∙ ap (λ ls. opening_lines f h hs ++ ls) (none_so_far f o) ∙ append-nil (opening_lines f h hs)
+none_lines : (o : Option Bool) (s : State) → s.list ≡ [] → body_lines o s ≡ opening_lines s.format s.horizon s.holds
+none_lines o s none = ap (λ ys. opening_lines s.format s.horizon s.holds ++ lines_so_far s.format o ys) none
+    ∙ ap (λ ls. opening_lines s.format s.horizon s.holds ++ ls) (none_so_far s.format o)
+    ∙ append-nil (opening_lines s.format s.horizon s.holds)
 
-hold_lines : (f : Format) (o : Option Bool) (h : ℕ) (hs : List Hold) (xs : List Entry) (hold : Hold) → xs ≡ []
-    → body_lines f o h (hs ++ hold ∷ []) xs ≡ body_lines f o h hs xs ++ hold_line hold ∷ []
-hold_lines f o h hs xs hold none =
-    none_lines f o h (hs ++ hold ∷ []) xs none
-    ∙ ap (λ (ls : List Line). head_line f ∷ horizon_line h ∷ ls) (map-append hold_line hs (hold ∷ []))
-    ∙ ap (λ (ls : List Line). ls ++ hold_line hold ∷ []) (sym (none_lines f o h hs xs none))
+hold_lines : (o : Option Bool) (s : State) (hold : Hold) → s.list ≡ []
+    → body_lines o (record s { holds = s.holds ++ hold ∷ [] }) ≡ body_lines o s ++ hold_line hold ∷ []
+hold_lines o s hold none =
+    none_lines o (record s { holds = s.holds ++ hold ∷ [] }) none
+    ∙ ap (λ (ls : List Line). head_line s.format ∷ horizon_line s.horizon ∷ ls) (map-append hold_line s.holds (hold ∷ []))
+    ∙ ap (λ (ls : List Line). ls ++ hold_line hold ∷ []) (sym (none_lines o s none))
 
 -- the lines of a list that has grown
-more_lines : (f : Format) (o p : Option Bool) (h : ℕ) (hs : List Hold) (xs ys : List Entry) (more : List Line)
-    → lines_so_far f p ys ≡ lines_so_far f o xs ++ more → body_lines f p h hs ys ≡ body_lines f o h hs xs ++ more
-more_lines f o p h hs xs ys more e =
-    ap (λ (ls : List Line). opening_lines f h hs ++ ls) e ∙ sym (append_assoc (opening_lines f h hs) (lines_so_far f o xs) more)
+more_lines : (o p : Option Bool) (s : State) (list : List Entry) (more : List Line)
+    → lines_so_far s.format p list ≡ lines_so_far s.format o s.list ++ more
+    → body_lines p (record s { list = list }) ≡ body_lines o s ++ more
+more_lines o p s list more e =
+    ap (λ (ls : List Line). opening_lines s.format s.horizon s.holds ++ ls) e
+    ∙ sym (append_assoc (opening_lines s.format s.horizon s.holds) (lines_so_far s.format o s.list) more)
 
 begun_next : (xs : List Entry) (mark : Bool) (x : Entry) → (0 < length xs → mark ≡ (is_hit xs || nat_lt x.moment (last_end xs)))
     → lines_so_far Two None (xs ++ x ∷ []) ≡ lines_so_far Two (Some mark) xs ++ entry_lines x
@@ -188,15 +192,13 @@ record Keeps (s n : State) (fields : List (List ℕ)) : Type 0 where
   lines : lines_of n ≡ lines_of s ++ fields ∷ []
   sound : IsSound n
 
--- the same, of a state by its parts
-keeps : (s n : State) (fields : List (List ℕ)) (p : Position) (f : Format) (m : Bool) (h : ℕ) (hs : List Hold) (xs : List Entry)
-    → let new : State = record { position = p; format = f; mark = m; horizon = h; holds = hs; list = xs } in new ≡ n
-    → lines_at p f m h hs xs ≡ lines_of s ++ fields ∷ [] → IsSound new → Keeps s n fields
-keeps s n fields p f m h hs xs e lines sound = subst (λ (m : State). Keeps s m fields) e (record { lines = lines; sound = sound })
+-- the same, of a state that is the new one
+keeps : (s n new : State) (fields : List (List ℕ)) → new ≡ n → lines_of new ≡ lines_of s ++ fields ∷ [] → IsSound new → Keeps s n fields
+keeps s n new fields e lines sound = subst (λ (m : State). Keeps s m fields) e (record { lines = lines; sound = sound })
 
 position_lines : (s : State) (p : Position) (fields : List (List ℕ)) → s.position ≡ p
-    → lines_at p s.format s.mark s.horizon s.holds s.list ++ fields ∷ [] ≡ lines_of s ++ fields ∷ []
-position_lines s p fields e = ap (λ q. lines_at q s.format s.mark s.horizon s.holds s.list ++ fields ∷ []) (sym e)
+    → lines_at p s ++ fields ∷ [] ≡ lines_of s ++ fields ∷ []
+position_lines s p fields e = ap (λ q. lines_at q s ++ fields ∷ []) (sym e)
 
 fits_at : (s : State) (p : Position) → s.position ≡ p → PositionFits s.position s.horizon s.holds s.list
     → PositionFits p s.horizon s.holds s.list
@@ -221,7 +223,7 @@ format_is f x h = by_one (bytes_eq f (format_text One)) refl h where
   by_one false e k = by_two (bytes_eq f (format_text Two)) refl k
 
 headed_by : (s n : State) (o : Option Format) → headed s o ≡ Ok n → (x : Format) × (o ≡ Some x)
-    × (record { position = Headed; format = x; mark = s.mark; horizon = s.horizon; holds = s.holds; list = s.list } ≡ n)
+    × (record s { position = Headed; format = x } ≡ n)
 headed_by s n None h = absurd cc
 headed_by s n (Some x) h = (x, refl, cc)
 
@@ -233,7 +235,7 @@ head_keeps s n fields k p sound h =
     let b = headed_by s n (format_of (field fields 1)) a.1 in
     let line : head_line b.0 ≡ fields = ap (λ (f : List ℕ). f ∷ format_text b.0 ∷ []) (sym k)
     ∙ ap (λ (f : List ℕ). field fields 0 ∷ f ∷ []) (sym (format_is (field fields 1) b.0 b.1)) ∙ sym (two_fields fields a.0) in
-    keeps s n fields Headed b.0 s.mark s.horizon s.holds s.list b.2 (ap (λ (l : Line). l ∷ []) line ∙ position_lines s Start fields p)
+    keeps s n (record s { position = Headed; format = b.0 }) fields b.2 (ap (λ (l : Line). l ∷ []) line ∙ position_lines s Start fields p)
     (record { fits = fits_at s Start p sound.fits; marked = tt; trace = sound.trace })
 
 horizon_keeps : (s n : State) (fields : List (List ℕ)) → field fields 0 ≡ codes "HORIZON" → s.position ≡ Headed → IsSound s
@@ -248,8 +250,9 @@ horizon_keeps s n fields k p sound h =
     let line : horizon_line (number fields 1) ≡ fields = ap (λ (f : List ℕ). codes "HORIZON" ∷ f ∷ [])
     (decimal_again (field fields 1) b.0 (omega (arith, low))) ∙ ap (λ (f : List ℕ). f ∷ field fields 1 ∷ []) (sym k)
     ∙ sym (two_fields fields a.0) in
-    keeps s n fields Holding s.format s.mark (number fields 1) s.holds s.list (done _ n d.1)
-    (none_lines s.format (Some s.mark) (number fields 1) s.holds s.list none.1
+    let new : State = record s { position = Holding; horizon = number fields 1 } in
+    keeps s n new fields (done _ n d.1)
+    (none_lines (Some s.mark) new none.1
     ∙ ap (λ (hs : List Hold). opening_lines s.format (number fields 1) hs) none.0
     ∙ ap (λ (l : Line). head_line s.format ∷ l ∷ []) line ∙ position_lines s Headed fields p)
     (record {
@@ -283,9 +286,8 @@ hold_keeps s n fields k p sound h =
     ap (λ (f : List ℕ). codes "HOLD" ∷ f ∷ decimal (number fields 2) ∷ []) (decimal_again (field fields 1) plain.0 (omega (arith, low)))
     ∙ ap (λ (f : List ℕ). codes "HOLD" ∷ field fields 1 ∷ f ∷ []) (decimal_again (field fields 2) plain.1 (omega (arith, count)))
     ∙ ap (λ (f : List ℕ). f ∷ field fields 1 ∷ field fields 2 ∷ []) (sym k) ∙ sym (three_fields fields a.0) in
-    keeps s n fields Holding s.format s.mark s.horizon (s.holds ++ hold ∷ []) s.list (done _ n e.1)
-    (hold_lines s.format (Some s.mark) s.horizon s.holds s.list hold none
-    ∙ ap (λ (l : Line). body_lines s.format (Some s.mark) s.horizon s.holds s.list ++ l ∷ []) line
+    keeps s n (record s { position = Holding; holds = s.holds ++ hold ∷ [] }) fields (done _ n e.1)
+    (hold_lines (Some s.mark) s hold none ∙ ap (λ (l : Line). body_lines (Some s.mark) s ++ l ∷ []) line
     ∙ position_lines s Holding fields p)
     (record {
       fits = none;
@@ -319,10 +321,9 @@ begin_keeps s n fields k p sound h =
     (decimal_again (field fields 1) plain.0 (omega (arith, below, sound.trace.horizon)))
     ∙ ap (λ (f : List ℕ). codes "TX" ∷ field fields 1 ∷ f ∷ []) (decimal_again (field fields 2) plain.1 (omega (arith, low)))
     ∙ ap (λ (f : List ℕ). f ∷ field fields 1 ∷ field fields 2 ∷ []) (sym k) ∙ sym (three_fields fields a.0) in
-    keeps s n fields (Begun (number fields 1) (number fields 2)) s.format s.mark s.horizon s.holds s.list (done _ n g.1)
-    (ap (λ (l : Line). body_lines s.format (Some s.mark) s.horizon s.holds s.list ++ l ∷ []) line
-    ∙ ap (λ (ls : List Line). ls ++ fields ∷ []) (sym (body_at s.position s.format s.mark
-    (last_count s.list) s.horizon s.holds s.list p)))
+    keeps s n (record s { position = Begun (number fields 1) (number fields 2) }) fields (done _ n g.1)
+    (ap (λ (l : Line). body_lines (Some s.mark) s ++ l ∷ []) line
+    ∙ ap (λ (ls : List Line). ls ++ fields ∷ []) (sym (body_at s.position s (last_count s.list) p)))
     (record {
       fits = (below, positive, low, e.0);
       marked = begun_fits s.format (number fields 1) (number fields 2) s.mark s.list
@@ -353,9 +354,9 @@ close_keeps s n fields k p sound h =
     let closed : lines_so_far s.format (Some mark) s.list ≡ lines_so_far s.format None s.list ++ ended_line (last_end s.list) mark ∷ [] =
     subst (λ (f : Format). lines_so_far f (Some mark) s.list ≡ lines_so_far f None s.list ++ ended_line (last_end s.list) mark ∷ [])
     (sym at.1) (told_closed [] mark s.list some) in
-    keeps s n fields Closed s.format mark s.horizon s.holds s.list (done _ n e.1)
-    (more_lines s.format None (Some mark) s.horizon s.holds s.list s.list (ended_line (last_end s.list) mark ∷ []) closed
-    ∙ ap (λ (l : Line). body_lines s.format None s.horizon s.holds s.list ++ l ∷ []) line ∙ position_lines s Stringing fields at.0)
+    keeps s n (record s { position = Closed; mark = mark }) fields (done _ n e.1)
+    (more_lines None (Some mark) s s.list (ended_line (last_end s.list) mark ∷ []) closed
+    ∙ ap (λ (l : Line). body_lines None s ++ l ∷ []) line ∙ position_lines s Stringing fields at.0)
     (record { fits = some; marked = (at.1, unhit mark (is_hit s.list) (is_final s.horizon s.list) e.0); trace = sound.trace })
 
 end_keeps : (s n : State) (fields : List (List ℕ)) → field fields 0 ≡ codes "END"
@@ -366,10 +367,9 @@ end_keeps s n fields k p sound h =
     let g = row_against (is_refuted s false) reason.Mark None _ n a.1 in
     let begins = end_at s.position s.format (last_count s.list) p in
     let line : end_line ≡ fields = ap (λ (f : List ℕ). f ∷ []) (sym k) ∙ sym (one_field fields a.0) in
-    keeps s n fields Ended s.format s.mark s.horizon s.holds s.list (done _ n g.1)
-    (ap (λ (l : Line). body_lines s.format (Some s.mark) s.horizon s.holds s.list ++ l ∷ []) line
-    ∙ ap (λ (ls : List Line). ls ++ fields ∷ []) (sym (body_at s.position s.format s.mark
-    (last_count s.list) s.horizon s.holds s.list begins)))
+    keeps s n (record s { position = Ended }) fields (done _ n g.1)
+    (ap (λ (l : Line). body_lines (Some s.mark) s ++ l ∷ []) line
+    ∙ ap (λ (ls : List Line). ls ++ fields ∷ []) (sym (body_at s.position s (last_count s.list) begins)))
     (record {
       fits = tt;
       marked = ended_fits s.format s.mark s.list (mark_shown s.position s.format s.mark
@@ -379,41 +379,41 @@ end_keeps s n fields k p sound h =
 
 -- a wordstring more
 record Grows (s : State) (w : Wordstring) : Type 0 where
-  lines : body_lines s.format None s.horizon s.holds (more_list s.position w s.list) ≡ lines_of s ++ string_line w ∷ []
+  lines : body_lines None (record s { list = more_list s.position w s.list }) ≡ lines_of s ++ string_line w ∷ []
   some : 0 < length (more_list s.position w s.list)
   list : AllByRecursion (IsBelow s.horizon) (more_list s.position w s.list)
   order : IsAscending (more_list s.position w s.list)
 
-grows : (p : Position) (g : Format) (mark : Bool) (h : ℕ) (hs : List Hold) (xs : List Entry) (w : Wordstring)
-    → may_follow p g (last_count xs) keyword.Ws ≡ true → PositionFits p h hs xs → MarkFits p g mark xs
-    → AllByRecursion (IsBelow h) xs → IsAscending xs → IsWordstring w
-    → Grows (record { position = p; format = g; mark = mark; horizon = h; holds = hs; list = xs }) w
-grows Start g mark h hs xs w m f k below order i = absurd cc
-grows Headed g mark h hs xs w m f k below order i = absurd cc
-grows Holding g mark h hs xs w m f k below order i = absurd cc
-grows (Begun m n) g mark h hs xs w e f k below order i =
+grows : (p : Position) (s : State) (w : Wordstring) → may_follow p s.format (last_count s.list) keyword.Ws ≡ true
+    → PositionFits p s.horizon s.holds s.list → MarkFits p s.format s.mark s.list
+    → AllByRecursion (IsBelow s.horizon) s.list → IsAscending s.list → IsWordstring w → Grows (record s { position = p }) w
+grows Start s w m f k below order i = absurd cc
+grows Headed s w m f k below order i = absurd cc
+grows Holding s w m f k below order i = absurd cc
+grows (Begun m n) s w e f k below order i =
     let x : Entry = record { moment = m; terminal = n; message = w ∷ [] } in
     record {
-      lines = more_lines g (Some mark) None h hs xs (xs ++ x ∷ []) (begin_line m n ∷ string_line w ∷ []) (begun_lines g mark xs m n w k)
-          ∙ sym (append_assoc (body_lines g (Some mark) h hs xs) (begin_line m n ∷ []) (string_line w ∷ []));
-      some = omega (arith, length-append xs (x ∷ []));
-      list = all_push (IsBelow h) xs x below (record {
+      lines = more_lines (Some s.mark) None s (s.list ++ x ∷ []) (begin_line m n ∷ string_line w ∷ [])
+          (begun_lines s.format s.mark s.list m n w k)
+          ∙ sym (append_assoc (body_lines (Some s.mark) s) (begin_line m n ∷ []) (string_line w ∷ []));
+      some = omega (arith, length-append s.list (x ∷ []));
+      list = all_push (IsBelow s.horizon) s.list x below (record {
         moment = f.0;
         positive = f.1;
         low = f.2;
         message =
             record { some = omega arith; few = omega arith; strings = (i, tt) };
       });
-      order = ascending_push xs x order f.3;
+      order = ascending_push s.list x order f.3;
     }
-grows Stringing g mark h hs xs w m f k below order i = record {
-  lines = more_lines g None None h hs xs (with_string w xs) (string_line w ∷ []) (string_lines g w xs f);
-  some = omega (arith, length-with_string w xs, f);
-  list = below_with h w xs i (ltb-true (last_count xs) 31 m) below;
-  order = ascending_with w xs order;
+grows Stringing s w m f k below order i = record {
+  lines = more_lines None None s (with_string w s.list) (string_line w ∷ []) (string_lines s.format w s.list f);
+  some = omega (arith, length-with_string w s.list, f);
+  list = below_with s.horizon w s.list i (ltb-true (last_count s.list) 31 m) below;
+  order = ascending_with w s.list order;
 }
-grows Closed g mark h hs xs w m f k below order i = absurd cc
-grows Ended g mark h hs xs w m f k below order i = absurd cc
+grows Closed s w m f k below order i = absurd cc
+grows Ended s w m f k below order i = absurd cc
 
 string_keeps : (s n : State) (fields : List (List ℕ)) → field fields 0 ≡ codes "WS"
     → may_follow s.position s.format (last_count s.list) keyword.Ws ≡ true → IsSound s → string_step s fields ≡ Ok n → Keeps s n fields
@@ -423,11 +423,10 @@ string_keeps s n fields k p sound h =
     let b = row (are_spelled (drop 1 fields)) reason.Spelling _ _ n a.1 in
     let d = row (have_parity (drop 1 fields)) reason.Parity None _ n b.1 in
     let w = string_is (drop 1 fields) b.0 d.0 (rest_few fields a.0) in
-    let g = grows s.position s.format s.mark s.horizon s.holds s.list
-    (string_of (drop 1 fields)) p sound.fits sound.marked sound.trace.list sound.trace.order w.1 in
+    let g = grows s.position s (string_of (drop 1 fields)) p sound.fits sound.marked sound.trace.list sound.trace.order w.1 in
     let line : string_line (string_of (drop 1 fields)) ≡ fields = ap (λ (fs : List (List ℕ)). codes "WS" ∷ fs) w.0
     ∙ ap (λ (f : List ℕ). f ∷ drop 1 fields) (sym k) ∙ sym (first_and fields a.0) in
-    keeps s n fields Stringing s.format s.mark s.horizon s.holds (more_list s.position (string_of (drop 1 fields)) s.list) (done _ n d.1)
+    keeps s n (record s { position = Stringing; list = more_list s.position (string_of (drop 1 fields)) s.list }) fields (done _ n d.1)
     (g.lines ∙ ap (λ (l : Line). lines_of s ++ l ∷ []) line)
     (record {
       fits = g.some;

@@ -11,7 +11,7 @@ use Rattle.bus_trace.specs.Runs.{HasNoFeed, stream_of}
 use Rattle.bus_trace.specs.Reading.{Offends}
 use Rattle.bus_trace.specs.Feeding.{Reader}
 use Rattle.bus_trace.specs.declared.fault.TraceError.{TraceError}
-use Rattle.bus_trace.specs.declared.fault.TraceError.TheVariants.{Text, ReadFault, TooLarge, Memory}
+use Rattle.bus_trace.specs.declared.fault.TraceError.TheVariants.{Text}
 use Rattle.bus_trace.specs.declared.reason.TraceReason.{TraceReason}
 use Rattle.bus_trace.specs.declared.reason.TraceReason.TheVariants.{Ended}
 use Rattle.bus_trace.specs.declared.stage.Stage.TheVariants.{Open, Whole, Shut}
@@ -86,6 +86,4 @@ abbrev pub Finishes : Reader → Result Recording TraceError → Type 0
 Finishes r (Ok trace) = IsWhole r × IsTraceText trace (stream r)
 Finishes r (Err (Text byte reason)) =
     IsOpen r × ((pending : List ℕ) × IsPending (stream r) pending × (byte + length pending ≡ length (stream r))) × (reason ≡ Ended)
-Finishes r (Err ReadFault) = ⊥
-Finishes r (Err TooLarge) = ⊥
-Finishes r (Err Memory) = ⊥
+Finishes r (Err error) = ⊥

@@ -14,27 +14,35 @@ use Rattle.bus_trace.specs.Limits.{trace_limit, line_limit}
 use Rattle.bus_trace.specs.declared.format.Format.{Format}
 use Rattle.bus_trace.specs.Traces.{Recording, text_in}
 use Rattle.bus_trace.specs.States.{State, step, text_of}
-use Rattle.bus_trace.specs.Runs.{Standing, Progress, Going, Over, HasNoFeed, begin, run, due}
+use Rattle.bus_trace.specs.Runs.{Standing, Progress, Going, Over, HasNoFeed, behind, begin, run, due}
 
 -- Whole lines with which nothing is wrong gave this state.
 pub record Gave (lines : List ℕ) (s : State) : Type 0 where
   pub text : lines ≡ text_of s
-  pub run : run begin lines ≡ Going (record { state = s; line = [] })
+  pub run : run begin lines ≡ Going (behind s)
+
+-- The bytes of a line, or of its front, which begins at this byte; with the lines before it nothing is wrong.
+pub record LineAt (byte : ℕ) : Type 0 where
+  pub before : State
+  pub lines : List ℕ
+  pub line : List ℕ
+  pub gave : Gave lines before
+  pub place : byte ≡ length lines
+  pub feedless : HasNoFeed line
 
 -- These bytes end with the offending line, or with its 1,802nd byte where no line feed came before, which decides it. Its place is the
 -- length of the lines before.
 pub data Offends (taken : List ℕ) (byte : ℕ) (reason : TraceReason) : Type 0 where
-  Complete : (before : State) (lines line : List ℕ) → taken ≡ lines ++ (line ++ 10 ∷ []) → byte ≡ length lines → Gave lines before
-      → HasNoFeed line → length line ≤ line_limit → step before line ≡ Err reason → Offends taken byte reason
-  Overlong : (before : State) (lines line : List ℕ) → taken ≡ lines ++ line → byte ≡ length lines → Gave lines before
-      → HasNoFeed line → length line ≡ (line_limit + 1) → reason ≡ Long → Offends taken byte reason
+  Complete : (at : LineAt byte) → taken ≡ at.lines ++ (at.line ++ 10 ∷ []) → length at.line ≤ line_limit → step at.before at.line ≡ Err reason
+      → Offends taken byte reason
+  Overlong : (at : LineAt byte) → taken ≡ at.lines ++ at.line → length at.line ≡ (line_limit + 1) → reason ≡ Long → Offends taken byte reason
 
 -- A text is refused at the length of the lines before the offending line. It was taken up to where that line is decided, or to the end
 -- of the source.
 pub data Refuses (taken : List ℕ) (left : Option (List ℕ)) (byte : ℕ) (reason : TraceReason) : Type 0 where
   ByLine : Offends taken byte reason → Refuses taken left byte reason
-  CutOff : (before : State) (lines line : List ℕ) → taken ≡ lines ++ line → byte ≡ length lines → Gave lines before
-      → HasNoFeed line → length line ≤ line_limit → IfSome left (λ rest. rest ≡ []) → reason ≡ Ended → Refuses taken left byte reason
+  CutOff : (at : LineAt byte) → taken ≡ at.lines ++ at.line → length at.line ≤ line_limit → IfSome left (λ rest. rest ≡ []) → reason ≡ Ended
+      → Refuses taken left byte reason
 
 -- These bytes decide, and one less of them decides nothing.
 pub record Decides (bytes : List ℕ) (p : Progress) : Type 0 where
@@ -68,16 +76,11 @@ TakesTrace old new (Err Memory) = Takes old new (λ bytes. length bytes ≤ trac
 
 -- The answer is this reading; a failed pull and want of memory say nothing of it.
 abbrev pub ReadGives : Result Recording TraceError → Result Recording TraceError → Type 0
-ReadGives (Ok trace) reading = reading ≡ Ok trace
-ReadGives (Err (Text byte reason)) reading = reading ≡ Err (Text byte reason)
-ReadGives (Err TooLarge) reading = reading ≡ Err TooLarge
 ReadGives (Err ReadFault) reading = Unit {0}
 ReadGives (Err Memory) reading = Unit {0}
+ReadGives result reading = reading ≡ result
 
 -- A read counts a fault exactly where it answers one: a failed pull is never passed over, nor given as another error.
 abbrev pub CountsReading : ℕ → ℕ → Result Recording TraceError → Type 0
-CountsReading before now (Ok trace) = now ≡ before
-CountsReading before now (Err (Text byte reason)) = now ≡ before
 CountsReading before now (Err ReadFault) = Fails before now
-CountsReading before now (Err TooLarge) = now ≡ before
-CountsReading before now (Err Memory) = now ≡ before
+CountsReading before now result = now ≡ before

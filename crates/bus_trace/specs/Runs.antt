@@ -28,9 +28,13 @@ pub data Progress : Type 0 where
   Refused : ℕ → TraceReason → Progress
   Over : Progress
 
+-- Behind whole lines that gave this state.
+abbrev pub behind : State → Standing
+behind s = record { state = s; line = [] }
+
 -- What a line that is complete gives; a refusal stands at the length of the lines before it.
 abbrev pub judged : State → Result State TraceReason → Progress
-judged before (Ok next) = if is_ended next.position then Found next else Going (record { state = next; line = [] })
+judged before (Ok next) = if is_ended next.position then Found next else Going (behind next)
 judged before (Err reason) = Refused (length (text_of before)) reason
 
 -- The bytes are of one line.
@@ -41,16 +45,14 @@ HasNoFeed bytes = AllByRecursion (λ b. is_feed b ≡ false) bytes
 unfoldable pub take_byte : Standing → ℕ → Progress
 take_byte r b =
     if is_feed b then judged r.state (step r.state r.line)
-    else if nat_lt (length r.line) line_limit then Going (record { state = r.state; line = r.line ++ b ∷ [] })
+    else if nat_lt (length r.line) line_limit then Going (record r { line = r.line ++ b ∷ [] })
     else Refused (length (text_of r.state)) Long
 
 infixl 10 ◌>>-◌
 -- What comes behind bytes that decide nothing.
 abbrev pub ◌>>-◌ : Progress → (Standing → Progress) → Progress
 (Going r) >>- f = f r
-(Found s) >>- f = Found s
-(Refused byte reason) >>- f = Refused byte reason
-Over >>- f = Over
+progress >>- f = progress
 
 -- Where these bytes lead, one after another.
 unfoldable pub run : Standing → List ℕ → Progress
@@ -59,7 +61,7 @@ run r (b ∷ bs) = take_byte r b >>- λ next. run next bs
 
 -- Nothing came.
 abbrev pub begin : Standing
-begin = record { state = start; line = [] }
+begin = behind start
 
 -- All that was read of a stream: since a value has one spelling, it need not be kept.
 abbrev pub stream_of : Standing → List ℕ
@@ -68,9 +70,7 @@ stream_of r = text_of r.state ++ r.line
 -- A stream that is longer than the limit goes no further.
 abbrev pub due_by : Bool → Progress → Progress
 due_by longer (Going r) = if longer then Over else Going r
-due_by longer (Found s) = Found s
-due_by longer (Refused byte reason) = Refused byte reason
-due_by longer Over = Over
+due_by longer progress = progress
 
 -- Where a stream leads, of which no more bytes than the limit are looked at.
 unfoldable pub due : ℕ → List ℕ → Progress

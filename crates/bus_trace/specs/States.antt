@@ -61,23 +61,27 @@ earlier [] = []
 earlier (last ∷ []) = []
 earlier (first ∷ next ∷ others) = first ∷ earlier (next ∷ others)
 
+-- A number of the last of these, and 0 where there is none.
+abbrev pub of_last : {X : Type 0} → (X → ℕ) → List X → ℕ
+of_last number [] = 0
+of_last number (last ∷ []) = number last
+of_last number (first ∷ next ∷ others) = of_last number (next ∷ others)
+
 -- The moment of the last transmission, or 0.
 abbrev pub last_moment : List Entry → ℕ
-last_moment [] = 0
-last_moment (last ∷ []) = last.moment
-last_moment (first ∷ next ∷ others) = last_moment (next ∷ others)
+last_moment list = of_last (λ x. x.moment) list
 
 -- The terminal of the last transmission, or 0.
 abbrev pub last_sender : List Entry → ℕ
-last_sender [] = 0
-last_sender (last ∷ []) = last.terminal
-last_sender (first ∷ next ∷ others) = last_sender (next ∷ others)
+last_sender list = of_last (λ x. x.terminal) list
 
 -- The moment at which the last transmission has ended, or 0.
 abbrev pub last_end : List Entry → ℕ
-last_end [] = 0
-last_end (last ∷ []) = end_of last
-last_end (first ∷ next ∷ others) = last_end (next ∷ others)
+last_end list = of_last end_of list
+
+-- How many wordstrings the last transmission has, or 0.
+abbrev pub last_count : List Entry → ℕ
+last_count list = of_last (λ x. length x.message) list
 
 -- Whether the last transmission is hit: an earlier one ends behind its moment.
 abbrev pub is_hit : List Entry → Bool
@@ -102,24 +106,22 @@ abbrev pub lines_so_far : Format → Option Bool → List Entry → List Line
 lines_so_far One mark list = flat_map entry_lines list
 lines_so_far Two mark list = told_lines [] mark list
 
--- The lines before a position, with these transmissions.
-abbrev pub body_lines : Format → Option Bool → ℕ → List Hold → List Entry → List Line
-body_lines format mark horizon holds list = opening_lines format horizon holds ++ lines_so_far format mark list
+-- The lines of the values of a state; the TE line of its last transmission has come with this mark, or not yet.
+abbrev pub body_lines : Option Bool → State → List Line
+body_lines mark s = opening_lines s.format s.horizon s.holds ++ lines_so_far s.format mark s.list
 
--- The lines that gave these values, up to a position.
-abbrev pub lines_at : Position → Format → Bool → ℕ → List Hold → List Entry → List Line
-lines_at Start format mark horizon holds list = []
-lines_at Headed format mark horizon holds list = head_line format ∷ []
-lines_at Holding format mark horizon holds list = body_lines format (Some mark) horizon holds list
-lines_at (Begun moment terminal) format mark horizon holds list =
-    body_lines format (Some mark) horizon holds list ++ begin_line moment terminal ∷ []
-lines_at Stringing format mark horizon holds list = body_lines format None horizon holds list
-lines_at Closed format mark horizon holds list = body_lines format (Some mark) horizon holds list
-lines_at Ended format mark horizon holds list = body_lines format (Some mark) horizon holds list ++ end_line ∷ []
+-- The lines up to a position, with the values of a state.
+abbrev pub lines_at : Position → State → List Line
+lines_at Start s = []
+lines_at Headed s = head_line s.format ∷ []
+lines_at (Begun moment terminal) s = body_lines (Some s.mark) s ++ begin_line moment terminal ∷ []
+lines_at Stringing s = body_lines None s
+lines_at Ended s = body_lines (Some s.mark) s ++ end_line ∷ []
+lines_at position s = body_lines (Some s.mark) s
 
 -- The lines that gave this state.
 abbrev pub lines_of : State → List Line
-lines_of s = lines_at s.position s.format s.mark s.horizon s.holds s.list
+lines_of s = lines_at s.position s
 
 -- The text of the lines that gave this state.
 unfoldable pub text_of : State → List ℕ
@@ -138,12 +140,6 @@ keyword_of field =
     else if bytes_eq field (codes "END") then Some keyword.End
     else None
 
--- How many wordstrings the last transmission has.
-abbrev pub last_count : List Entry → ℕ
-last_count [] = 0
-last_count (last ∷ []) = length last.message
-last_count (first ∷ next ∷ others) = last_count (next ∷ others)
-
 -- Whether transmissions have marks in this format, each in a TE line.
 abbrev pub is_marked : Format → Bool
 is_marked One = false
@@ -151,52 +147,35 @@ is_marked Two = true
 
 -- Whether the keyword may stand behind a WS line, whose transmission has so many of them.
 abbrev pub may_follow_string : Format → ℕ → Keyword → Bool
-may_follow_string format count keyword.Trace = false
-may_follow_string format count keyword.Horizon = false
-may_follow_string format count keyword.Hold = false
 may_follow_string format count keyword.Tx = not (is_marked format)
 may_follow_string format count keyword.Ws = nat_lt count most_strings
 may_follow_string format count keyword.Te = is_marked format
 may_follow_string format count keyword.End = not (is_marked format)
+may_follow_string format count k = false
 
 -- TRACE comes first, HORIZON behind it, then the HOLD lines; behind these and behind each transmission come TX or END; behind TX comes
 -- WS. In format 2 a transmission ends with its TE line.
 abbrev pub may_follow : Position → Format → ℕ → Keyword → Bool
 may_follow Start format count keyword.Trace = true
-may_follow Start format count k = false
 may_follow Headed format count keyword.Horizon = true
-may_follow Headed format count k = false
 may_follow Holding format count keyword.Hold = true
 may_follow Holding format count keyword.Tx = true
 may_follow Holding format count keyword.End = true
-may_follow Holding format count k = false
 may_follow (Begun moment terminal) format count keyword.Ws = true
-may_follow (Begun moment terminal) format count k = false
 may_follow Stringing format count k = may_follow_string format count k
 may_follow Closed format count keyword.Tx = true
 may_follow Closed format count keyword.End = true
-may_follow Closed format count k = false
-may_follow Ended format count k = false
+may_follow position format count k = false
 
 -- Whether the last line was END.
 abbrev pub is_ended : Position → Bool
-is_ended Start = false
-is_ended Headed = false
-is_ended Holding = false
-is_ended (Begun moment terminal) = false
-is_ended Stringing = false
-is_ended Closed = false
 is_ended Ended = true
+is_ended position = false
 
 -- Whether the last line was a TE line.
 abbrev pub is_closed : Position → Bool
-is_closed Start = false
-is_closed Headed = false
-is_closed Holding = false
-is_closed (Begun moment terminal) = false
-is_closed Stringing = false
 is_closed Closed = true
-is_closed Ended = false
+is_closed position = false
 
 -- ---- marks
 -- Whether a field is a mark.
@@ -250,9 +229,7 @@ number fields k = decimal_value (field fields k)
 
 -- The terminal of the last hold, or 0.
 abbrev pub last_terminal : List Hold → ℕ
-last_terminal [] = 0
-last_terminal (last ∷ []) = last.terminal
-last_terminal (first ∷ next ∷ others) = last_terminal (next ∷ others)
+last_terminal holds = of_last (λ hold. hold.terminal) holds
 
 -- Whether a moment and a terminal ascend behind a transmission.
 abbrev pub comes_after : Entry → ℕ → ℕ → Bool
@@ -267,8 +244,7 @@ is_after (first ∷ next ∷ others) moment terminal = is_after (next ∷ others
 -- The last transmission has one wordstring more.
 abbrev pub with_string : Wordstring → List Entry → List Entry
 with_string string [] = []
-with_string string (last ∷ []) =
-    record { moment = last.moment; terminal = last.terminal; message = last.message ++ string ∷ [] } ∷ []
+with_string string (last ∷ []) = record last { message = last.message ++ string ∷ [] } ∷ []
 with_string string (first ∷ next ∷ others) = first ∷ with_string string (next ∷ others)
 
 -- A WS line behind a TX line makes its transmission; behind another WS line it adds to the last one.
@@ -286,8 +262,7 @@ format_of field =
 -- The state behind a TRACE line of a format, if it is one.
 abbrev pub headed : State → Option Format → Result State TraceReason
 headed s None = Err reason.Fields
-headed s (Some format) =
-    Ok (record { position = Headed; format = format; mark = s.mark; horizon = s.horizon; holds = s.holds; list = s.list })
+headed s (Some format) = Ok (record s { position = Headed; format = format })
 
 -- A TRACE line: it has two fields, and the second is the number of a format.
 unfoldable pub head_step : State → List (List ℕ) → Result State TraceReason
@@ -301,7 +276,7 @@ horizon_step s fields =
     ∷ (not (is_number fields 1), reason.Spelling)
     ∷ (not (is_in_range 0 horizon_limit (number fields 1)), reason.Range)
     ∷ []))
-    (record { position = Holding; format = s.format; mark = s.mark; horizon = number fields 1; holds = s.holds; list = s.list })
+    (record s { position = Holding; horizon = number fields 1 })
 
 -- A HOLD line.
 unfoldable pub hold_step : State → List (List ℕ) → Result State TraceReason
@@ -313,12 +288,11 @@ hold_step s fields =
     ∷ (not (is_in_range 1 most_terminal (number fields 1) && is_in_range 0 most_count (number fields 2)), reason.Range)
     ∷ (not (nat_lt (last_terminal s.holds) (number fields 1)), reason.Order)
     ∷ []))
-    (record { position = Holding; format = s.format; mark = s.mark; horizon = s.horizon; holds = s.holds ++ hold ∷ []; list = s.list })
+    (record s { position = Holding; holds = s.holds ++ hold ∷ [] })
 
 -- A TX line. It meets the transmission before where it begins before that one's end.
 unfoldable pub begin_step : State → List (List ℕ) → Result State TraceReason
 begin_step s fields =
-    let position : Position = Begun (number fields 1) (number fields 2) in
     unless (first_of (
     (not (length fields == 3), reason.Fields)
     ∷ (not (is_number fields 1 && is_number fields 2), reason.Spelling)
@@ -326,19 +300,18 @@ begin_step s fields =
     ∷ (not (is_after s.list (number fields 1) (number fields 2)), reason.Order)
     ∷ (is_refuted s (nat_lt (number fields 1) (last_end s.list)), reason.Mark)
     ∷ []))
-    (record { position = position; format = s.format; mark = s.mark; horizon = s.horizon; holds = s.holds; list = s.list })
+    (record s { position = Begun (number fields 1) (number fields 2) })
 
 -- A WS line.
 unfoldable pub string_step : State → List (List ℕ) → Result State TraceReason
 string_step s fields =
     let words = drop 1 fields in
-    let list = more_list s.position (string_of words) s.list in
     unless (first_of (
     (not (is_in_range 2 most_fields (length fields)), reason.Fields)
     ∷ (not (are_spelled words), reason.Spelling)
     ∷ (not (have_parity words), reason.Parity)
     ∷ []))
-    (record { position = Stringing; format = s.format; mark = s.mark; horizon = s.horizon; holds = s.holds; list = list })
+    (record s { position = Stringing; list = more_list s.position (string_of words) s.list })
 
 -- A TE line.
 unfoldable pub close_step : State → List (List ℕ) → Result State TraceReason
@@ -350,13 +323,13 @@ close_step s fields =
     ∷ (not (number fields 1 == last_end s.list), reason.Mark)
     ∷ (starts_wrong mark (is_hit s.list) (is_final s.horizon s.list), reason.Mark)
     ∷ []))
-    (record { position = Closed; format = s.format; mark = mark; horizon = s.horizon; holds = s.holds; list = s.list })
+    (record s { position = Closed; mark = mark })
 
 -- An END line. It meets no transmission.
 unfoldable pub end_step : State → List (List ℕ) → Result State TraceReason
 end_step s fields =
     unless (first_of ((not (length fields == 1), reason.Fields) ∷ (is_refuted s false, reason.Mark) ∷ []))
-    (record { position = Ended; format = s.format; mark = s.mark; horizon = s.horizon; holds = s.holds; list = s.list })
+    (record s { position = Ended })
 
 -- A line of the form that a keyword begins.
 abbrev pub form_step : Keyword → State → List (List ℕ) → Result State TraceReason

@@ -3,19 +3,18 @@
 use Rattle.std.specs.Prelude.{Bool, ℕ, List}
 use Rattle.bus_trace.specs.declared.keyword.Keyword.{Keyword}
 pub use Rattle.bus_trace.specs.declared.stop.Stop.{Stop}
-use Rattle.bus_trace.specs.Runs.{Progress, Going, Found, Refused, Over, begin, run}
+use Rattle.bus_trace.specs.Runs.{Progress, Going, Found, begin, run}
 use Rattle.bus_trace.specs.States.{State, start, last_count, may_follow}
 
 -- Behind the lines that gave a state.
 abbrev pub stop_in : State → Stop
 stop_in s = record { position = s.position; format = s.format; strings = last_count s.list }
 
--- Behind bytes that lead so far; of bytes of which a line is refused as behind none.
+-- Behind bytes that lead so far; where a line of them is refused, or the limit was passed, as behind none.
 abbrev pub stop_by : Progress → Stop
 stop_by (Going r) = stop_in r.state
 stop_by (Found s) = stop_in s
-stop_by (Refused byte reason) = stop_in start
-stop_by Over = stop_in start
+stop_by progress = stop_in start
 
 -- Behind these bytes.
 abbrev pub stop_behind : List ℕ → Stop

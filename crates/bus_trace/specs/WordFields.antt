@@ -11,9 +11,8 @@ use Rattle.bus_strings.specs.Messages.{Wordstring}
 -- Whether two kinds are the same.
 abbrev pub same_kind : Kind → Kind → Bool
 same_kind Label Label = true
-same_kind Label Plain = false
-same_kind Plain Label = false
 same_kind Plain Plain = true
+same_kind one other = false
 
 -- Whether a field is of the form of a word text of this kind.
 abbrev pub is_spelled : Kind → List ℕ → Bool

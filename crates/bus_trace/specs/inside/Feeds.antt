@@ -5,7 +5,7 @@ use Rattle.bus_trace.specs.Limits.{trace_limit}
 use Rattle.bus_trace.specs.States.{text_of, recorded}
 use Rattle.bus_trace.specs.Runs.{Going, Found, Refused, Over, run, begin, due, stream_of}
 use Rattle.bus_trace.specs.declared.fault.TraceError.{TraceError}
-use Rattle.bus_trace.specs.declared.fault.TraceError.TheVariants.{Text, ReadFault, TooLarge, Memory}
+use Rattle.bus_trace.specs.declared.fault.TraceError.TheVariants.{Text}
 use Rattle.bus_trace.specs.declared.reason.TraceReason.TheVariants.{Ended}
 use Rattle.bus_trace.specs.Traces.{Recording}
 use Rattle.bus_trace.specs.declared.walk.Walked.{Walked}
@@ -47,6 +47,4 @@ LeadsOn old new piece (Err e) = Unit {0}
 abbrev pub FinishGives : Reader → Result Recording TraceError → Type 0
 FinishGives old (Ok trace) = (old.stage ≡ stage.Whole) × (trace ≡ recorded old.at.state)
 FinishGives old (Err (Text byte reason)) = (old.stage ≡ stage.Open) × (byte ≡ length (text_of old.at.state)) × (reason ≡ Ended)
-FinishGives old (Err ReadFault) = ⊥
-FinishGives old (Err TooLarge) = ⊥
-FinishGives old (Err Memory) = ⊥
+FinishGives old (Err error) = ⊥

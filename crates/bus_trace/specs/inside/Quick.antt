@@ -12,14 +12,7 @@ use Rattle.bus_trace.specs.inside.Writing.{data_put}
 
 -- The state once the wordstring of a WS line has come.
 abbrev pub string_taken : State → Wordstring → State
-string_taken s string = record {
-  position = Stringing;
-  format = s.format;
-  mark = s.mark;
-  horizon = s.horizon;
-  holds = s.holds;
-  list = more_list s.position string s.list;
-}
+string_taken s string = record s { position = Stringing; list = more_list s.position string s.list }
 
 -- A TX line of these numbers is right.
 pub record BeginsRight (s : State) (moment terminal : ℕ) : Type 0 where

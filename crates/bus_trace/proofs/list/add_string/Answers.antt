@@ -1,12 +1,12 @@
 use Rattle.std.proofs.Common.{◌-◌, arith, vec_len, length, ap}
 use Rattle.bus_strings.specs.Messages.{Entry}
-use Rattle.bus_trace.proofs.Lasts.{last_count_is, set_last_string}
+use Rattle.bus_trace.proofs.Lasts.{of_last_is, set_last_string}
 use Rattle.bus_trace.proofs.list.add_string.Goals as goal
 
 pub push-requires : goal.push-requires
 push-requires c =
     let item = c.in-Some.ensures.item in
-    let k = last_count_is c.args.list.now.items (vec_len c.args.list.now - 1) c.in-Some.last.now
+    let k = of_last_is (λ (x : Entry). length x.message) c.args.list.now.items (vec_len c.args.list.now - 1) c.in-Some.last.now
     (omega (arith, item.3.0, c.args.list.now.ok.0)) item.1 in
     omega (arith, k, ap (λ (x : Entry). length x.message) c.last.view_is, c.requires)
 
