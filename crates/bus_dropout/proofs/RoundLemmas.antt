@@ -1,5 +1,5 @@
 -- The rounds of a drop-out schedule, and when each ends.
-use Rattle.std.proofs.Common.{◌≡◌, ℕ, suc, ◌+◌, ◌<◌, Bool, List, [], ◌∷◌, map, length, get_or, Some, arith, sym, refl, ap, ◌∙◌, inl, inr}
+use Rattle.std.proofs.Common.{◌≡◌, ℕ, zero, suc, ◌+◌, ◌<◌, Bool, List, [], ◌∷◌, length, get_or, Some, None, arith, sym, refl, ap, ◌∙◌, inl, inr}
 use Rattle.std.specs.Prelude.{slice_get, nat_lt, IsTrue}
 use Rattle.std.specs.List.{sum_by}
 use Rattle.std.proofs.lemmas.Bool.{ltb-true}
@@ -21,6 +21,7 @@ use Rattle.bus_schedule.specs.Closed.{sends, turns, turns_end, origin}
 use Rattle.bus_schedule.specs.Even.{messages_of}
 use Rattle.bus_schedule.specs.Laws.{LiveRoundsAreLawful, LiveRoundsEnd}
 use Rattle.bus_schedule.specs.Live.{live, live_rounds}
+use Rattle.bus_schedule.specs.Runs.{HasTurn}
 use Rattle.bus_dropout.specs.DropOut.{dropout, drop_end, most_messages}
 use Rattle.bus_dropout.specs.Laws.{DropOutIsLawful}
 use Rattle.bus_dropout.specs.Runs.{IsInLiveRounds}
@@ -64,22 +65,30 @@ round_more ends table hands round from span end sg valid dealt less from_is span
           ∙ ap (λ n. greatest_end (live_rounds table (messages_of hands) n)) one;
     }
 
--- the turns of a round are those of its senders, with their messages
-terminals_are : (messages : ℕ → List Message) (round : ℕ) (order : List Sender) (from : ℕ)
-    → map (λ (x : Entry). x.terminal) (turns messages round order from) ≡ map (λ (s : Sender). s.number) order
-terminals_are messages round [] from = refl
-terminals_are messages round (a ∷ order) from =
-    ap (λ l. a.number ∷ l) (terminals_are messages round order (end_of (sends messages round a (from + a.tg))))
+-- a round is a turn of each of its senders, which have a message left for it
+length-turns : (messages : ℕ → List Message) (round : ℕ) (order : List Sender) (from : ℕ)
+    → length (turns messages round order from) ≡ length order
+length-turns messages round [] from = refl
+length-turns messages round (a ∷ order) from = ap suc (length-turns messages round order (end_of (sends messages round a (from + a.tg))))
 
-messages_are : (messages : ℕ → List Message) (round : ℕ) (order : List Sender) (from : ℕ)
-    → ((s : Sender) → In s order → round < length (messages s.number))
-    → map (λ (x : Entry). Some x.message) (turns messages round order from) ≡ map (λ (s : Sender). slice_get (messages s.number) round) order
-messages_are messages round [] from h = refl
-messages_are messages round (a ∷ order) from h =
-    ap (λ l. Some (get_or (messages a.number) round []) ∷ l)
-    (messages_are messages round order (end_of (sends messages round a (from + a.tg))) (λ s i. h s (inr i)))
-    ∙ ap (λ m. m ∷ map (λ (s : Sender). slice_get (messages s.number) round) order)
-    (sym (slice_get-get_or (messages a.number) round [] (h a (inl refl))))
+turn_at : (hands : List Hand) (round : ℕ) (order : List Sender) (from place : ℕ) (sender : Sender)
+    → ((s : Sender) → In s order → round < length (messages_of hands s.number)) → slice_get order place ≡ Some sender
+    → HasTurn hands (turns (messages_of hands) round order from) place round sender
+turn_at hands round [] from place sender left at = absurd (let k : None ≡ Some sender = at in cc)
+turn_at hands round (a ∷ order) from zero sender left at =
+    let same : a ≡ sender = let k : Some a ≡ Some sender = at in cc in
+    record {
+      entry = sends (messages_of hands) round a (from + a.tg);
+      at = refl;
+      terminal = ap (λ (s : Sender). s.number) same;
+      message = ap (λ (s : Sender). slice_get (messages_of hands s.number) round) (sym same)
+          ∙ slice_get-get_or (messages_of hands a.number) round [] (left a (inl refl));
+    }
+turn_at hands round (a ∷ order) from (suc place) sender left at =
+    let end : ℕ = end_of (sends (messages_of hands) round a (from + a.tg)) in
+    let so : HasTurn hands (turns (messages_of hands) round order end) place round sender =
+    turn_at hands round order end place sender (λ s i. left s (inr i)) at in
+    record { entry = so.entry; at = so.at; terminal = so.terminal; message = so.message }
 
 in_live_rounds : (table : Table) (hands : List Hand) → IsInLiveRounds table hands (dropout table hands)
 in_live_rounds table hands = record {
@@ -88,10 +97,10 @@ in_live_rounds table hands = record {
   each = λ r less.
       let from : ℕ = origin (messages_of hands) table.sg (live table (messages_of hands)) r in
       record {
-        terminals = terminals_are (messages_of hands) r (live table (messages_of hands) r) from;
-        messages = messages_are (messages_of hands) r (live table (messages_of hands) r) from (λ s i.
+        whole = length-turns (messages_of hands) r (live table (messages_of hands) r) from;
+        turn = λ place sender at. turn_at hands r (live table (messages_of hands) r) from place sender (λ s i.
             ltb-true r (length (messages_of hands s.number))
-            (from_filter (has_left (messages_of hands) r) (turn_order table) s i).1);
+            (from_filter (has_left (messages_of hands) r) (turn_order table) s i).1) at;
       };
 }
 
