@@ -12,7 +12,8 @@ use Rattle.bus_strings.specs.Transmissions.{marks}
 use Rattle.bus_table.specs.declared.line.TakeLine.{TakeLine}
 use Rattle.bus_table.specs.Tables.{Sender, Listener, Table}
 
--- What one match gives: the moment of the transmission, the wordstring's label and extension, and the words taken.
+-- What one match gives, a receive line's of a wordstring: the moment of the transmission, the wordstring's label and extension, and the
+-- words taken.
 pub record ReceivedLine : Type 0 where
   pub moment : ℕ
   pub label : ℕ

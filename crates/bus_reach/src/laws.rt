@@ -31,7 +31,7 @@ pub fn no_delay_is_closed()
 
 /// For an accepted aperiodic table and even hands, of any length, with delays between its senders up to what the table bears, and wakes no
 /// later than that, the closed schedule is the one lawful list up to its end; no terminal, sender or listener, that hears every sender
-/// within the same hears two transmissions overlap, every cycle holds each sender once in turn order, and successive starts of a sender
+/// within the same hears two transmissions overlap, every round holds each sender once in turn order, and successive starts of a sender
 /// are as far apart as the verdict and the delays say.
 pub fn borne_is_closed()
     ensures { BorneIsClosed }

@@ -10,16 +10,17 @@ use Rattle.bus_schedule.specs.Closed.{closed, closed_end}
 use Rattle.bus_schedule.specs.Runs.{IsClear, IsInTurns, IsPaced}
 
 -- How late a terminal may hear the senders of a table so as to hear no two transmissions overlap, where the delays between the senders are
--- up to `most`: so much too, and a sender alone as late as the synchronization gap.
+-- up to `most`: so much too, and a sender alone as late as the synchronization gap. All are
+-- bit times.
 abbrev pub clear_within : Table → ℕ → ℕ
 clear_within table most = if length table.senders == 1 then table.sg else most
 
 -- The list is the run of a table and even hands with these delays, which are up to `most` between its senders:
 --   closed    it is the closed schedule without delays, in whole
---   lawful    each sender starts exactly when its three timers allow after what it heard, up to the closed end
+--   lawful    each sender starts exactly when its three timers allow after what it heard and it has a message left, up to the closed end
 --   only      no other list is lawful up to there
 --   clear     no terminal that hears every sender soon enough, be it a sender or a listener, hears two transmissions overlap
---   turns     every cycle holds each sender once, in turn order
+--   turns     every round holds each sender once, in turn order
 --   paced     successive starts of a sender are one transmit interval apart
 pub record IsRunOnCable (table : Table) (hands : List Hand) (most : ℕ) (delay : Delays) (list : List Entry) : Type 0 where
   pub closed : list ≡ closed table hands

@@ -7,6 +7,8 @@
 --   periodic   |message|..|message|....|message|..|message|....
 --              AT of 1    AT of 2      TI + AT of 1
 --
+--   even       hands are even where each sender has as many messages as any other
+--   round      one message of each sender: the first round has the first of each hand, and so on. Rounds are counted from 0
 --   messages   the messages of each terminal, by its number
 --   order      the senders in turn order
 use Rattle.std.specs.Prelude.{ℕ, zero, suc, ◌+◌, ◌*◌, List, [], ◌∷◌, ◌++◌, map, get_or}
@@ -38,8 +40,8 @@ abbrev pub turns_end : (ℕ → List Message) → ℕ → List Sender → ℕ �
 turns_end messages round [] from = from
 turns_end messages round (sender ∷ order) from = turns_end messages round order (end_of (sends messages round sender (from + sender.tg)))
 
--- The moment from which an aperiodic round counts: the settled start, or one synchronization gap behind the end of the round before, where
--- the senders of each round are given in turn order.
+-- The moment from which an aperiodic round counts: the settled start, or one synchronization gap behind the end of the round before. The
+-- order of each round gives its senders.
 abbrev pub origin : (ℕ → List Message) → ℕ → (ℕ → List Sender) → ℕ → ℕ
 origin messages sg order zero = 0
 origin messages sg order (suc round) = turns_end messages round (order round) (origin messages sg order round) + sg
@@ -61,7 +63,7 @@ gap_schedule messages sg order n = in_rounds (λ round. turns messages round (or
 abbrev pub offset_schedule : (ℕ → List Message) → ℕ → List Sender → ℕ → List Entry
 offset_schedule messages ti order n = in_rounds (λ round. offset_turns messages round order (round * ti)) n
 
--- So many rounds in a mode, of these messages.
+-- So many rounds of a table in a mode, of these messages.
 abbrev pub schedule_in : Mode → Table → (ℕ → List Message) → ℕ → List Entry
 schedule_in Aperiodic table messages n = gap_schedule messages table.sg (λ round. turn_order table) n
 schedule_in Periodic table messages n = offset_schedule messages table.ti (turn_order table) n

@@ -32,7 +32,7 @@ AcceptedIsClosed =
 
 -- The closed schedule of a table, accepted or not, and even hands:
 --   ascends   it is ordered by moment, then terminal
---   turns     it holds each sender once a cycle, in turn order
+--   turns     each of its rounds holds each sender once, in turn order
 --   clear     in aperiodic mode no two of its transmissions overlap
 pub record IsOrderly (table : Table) (hands : List Hand) : Type 0 where
   pub ascends : IsAscending (closed table hands)
@@ -61,14 +61,14 @@ LiveRoundsAreLawful =
     (table : Table) (hands : List Hand) (n : ℕ) → IsTrue (is_valid table) → table.mode ≡ Aperiodic → IsTrue (are_hands table.senders hands)
     → AreLong table (messages_of hands) → IsLawfulToItsEnd table hands (live_rounds table (messages_of hands) n)
 
--- The greatest end of such rounds, of which the last has a sender, is that of the last turn.
+-- The greatest end of such rounds, of which the last has a sender, is where the last turn of that one ends.
 abbrev pub LiveRoundsEnd : Type 0
 LiveRoundsEnd =
     (table : Table) (messages : ℕ → List Message) (round : ℕ) → 0 < length (live table messages round)
     → greatest_end (live_rounds table messages (suc round))
     ≡ turns_end messages round (live table messages round) (origin messages table.sg (live table messages) round)
 
--- The closed schedule of an aperiodic table is such rounds.
+-- The closed schedule of an aperiodic table and even hands is such rounds, as many as each hand has messages.
 abbrev pub EvenRoundsAreClosed : Type 0
 EvenRoundsAreClosed =
     (table : Table) (hands : List Hand) → IsTrue (is_valid table) → table.mode ≡ Aperiodic → IsTrue (are_even table hands)
@@ -102,7 +102,7 @@ TheRefusedFail =
 abbrev pub WitnessesAreEven : Type 0
 WitnessesAreEven = (table : Table) → IsTrue (is_valid table) → IsTrue (are_even table (witness_hands table))
 
--- And its closed end is within the limit.
+-- The closed end of the hands of a witness is within the limit.
 abbrev pub WitnessesAreShort : Type 0
 WitnessesAreShort = (table : Table) → IsTrue (is_valid table) → closed_end table (witness_hands table) ≤ longest_end
 

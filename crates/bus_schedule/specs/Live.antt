@@ -15,11 +15,11 @@ use Rattle.bus_schedule.specs.Closed.{gap_schedule}
 abbrev pub live : Table → (ℕ → List Message) → ℕ → List Sender
 live table messages round = filter (λ sender. nat_lt round (length (messages sender.number))) (turn_order table)
 
--- So many rounds of them, by gaps.
+-- So many rounds of the senders that have a message left, by gaps.
 abbrev pub live_rounds : Table → (ℕ → List Message) → ℕ → List Entry
 live_rounds table messages n = gap_schedule messages table.sg (live table messages) n
 
--- A cycle of these senders with their shortest messages: one synchronization gap, and each sender's terminal gap and message.
+-- A cycle of these senders with their shortest messages, in bit times: one synchronization gap, and each sender's terminal gap and message.
 abbrev pub shortest_cycle : Table → List Sender → ℕ
 shortest_cycle table senders = table.sg + sum_by (λ sender. sender.tg + shortest sender) senders
 

@@ -1,4 +1,5 @@
 -- What a run of an accepted table and even hands is.
+--   round   one message of each sender, of the same place in its hand. Rounds are counted from 0
 use Rattle.std.specs.Prelude.{◌≡◌, ℕ, ◌+◌, ◌*◌, ◌<◌, ◌≤◌, List, length, slice_get, Some}
 use Rattle.bus_strings.specs.Messages.{Entry}
 pub use Rattle.bus_strings.specs.Transmissions.{IsClear}
@@ -21,8 +22,8 @@ pub record HasTurn (hands : List Hand) (list : List Entry) (place round : ℕ) (
   pub terminal : entry.terminal ≡ sender.number
   pub message : slice_get (messages_of hands sender.number) round ≡ Some entry.message
 
--- Every cycle holds each sender once, in turn order, and nothing else: of K senders, entry `round * K + turn` is message `round` of the
--- sender at place `turn`.
+-- The list is its rounds, one after the other: each holds each sender once, in turn order, and nothing else. Of K senders, entry
+-- `round * K + turn` is message `round` of the sender at place `turn` of turn order.
 pub record IsInTurns (table : Table) (hands : List Hand) (list : List Entry) : Type 0 where
   pub whole : length list ≡ rounds hands * length table.senders
   pub turn : (round turn : ℕ) (sender : Sender) → round < rounds hands → slice_get (turn_order table) turn ≡ Some sender →
@@ -46,10 +47,10 @@ HaveMoved {C} core n bus = (k : ℕ) (seat : Seat C) → slice_get bus.seats k �
 
 -- The list is the run of a table and even hands:
 --   closed    it is the closed schedule, in whole
---   lawful    each sender starts exactly when its three timers allow, up to the closed end
+--   lawful    each sender starts exactly when its three timers allow and it has a message left, up to the closed end
 --   only      no other list is lawful up to there
 --   clear     no two transmissions overlap
---   turns     every cycle holds each sender once, in turn order
+--   turns     every round holds each sender once, in turn order
 --   paced     successive starts of a sender are as far apart as the verdict says
 pub record IsRun (table : Table) (hands : List Hand) (list : List Entry) : Type 0 where
   pub closed : list ≡ closed table hands

@@ -1,5 +1,5 @@
--- When a table is settled: whatever even hands its senders have, the bus does what the closed schedule says. No limit on the closed end is
--- meant here.
+-- When a table is settled: whatever even hands its senders have, the bus does what the closed schedule says, and no two messages overlap.
+-- No limit on the closed end is meant here.
 --   witness   two filling messages of each sender, by which a refused table fails
 use Rattle.std.specs.Prelude.{◌≡◌, ℕ, ◌<◌, ◌⊎◌, true, IsTrue, List, slice_get, Some}
 use Rattle.bus_strings.specs.Messages.{Entry}

@@ -17,7 +17,7 @@ pub fn live_rounds()
 {}
 
 /// For an accepted table in either mode and even hands, of any length, the closed schedule is the one lawful list up to the
-/// closed end; no two of its transmissions overlap, every cycle holds each sender once in turn order, and successive starts of
+/// closed end; no two of its transmissions overlap, every round holds each sender once in turn order, and successive starts of
 /// a sender are as far apart as the verdict says.
 pub fn accepted_is_closed()
     ensures { AcceptedIsClosed }
