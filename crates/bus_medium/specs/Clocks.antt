@@ -17,7 +17,8 @@ use Rattle.bus_medium.specs.Delays.{Delays, heard, heard_end}
 use Rattle.bus_medium.specs.Wakes.{Wakes, woken_past, woken_place}
 use Rattle.bus_medium.specs.CableLawful.{IsDueOnCable, IsLawfulOnCableTo}
 
--- The terminal gap of a terminal that was powered up at a place counts from this place, at a moment.
+-- At this moment the terminal gap of a terminal that was powered up at the place `wake` counts from the place `gap_from`, or will: in the
+-- terminal's own past, from g on.
 pub record GapAt (sg quiet wake : ℕ) (list : List Entry) (moment : ℕ) (last : Option ℕ) (gap_from : ℕ) : Type 0 where
   pub g : ℕ
   pub is : g + wake ≡ gap_from
@@ -52,7 +53,7 @@ pub record AreTimed (sg : ℕ) (stations : List Station) : Type 0 where
 pub record ScheduledSoFar (quiet : ℕ) (delay : Delays) (wake : Wakes) (stations : List Station) (list : List Entry) (t last : ℕ)
     (heard_all due gap_from sent : ℕ → ℕ) : Type 0 where
   pub law : IsLawfulOnCableTo quiet delay wake stations t 0 list
-  pub ticks : (s : Station) → In s stations
+  pub timers : (s : Station) → In s stations
       → HasTimers quiet delay wake s list (heard_all s.number) (due s.number) (gap_from s.number) (sent s.number)
   pub rests : (s : Station) (u : ℕ) → In s stations → t ≤ u → u < heard_all s.number → IsDueOnCable quiet delay wake list s u → ⊥
   pub decided : t ≤ last

@@ -17,7 +17,7 @@ use Rattle.bus_medium.specs.Delays.{Delays, heard_end}
 use Rattle.bus_medium.specs.CableLawful.{IsDueOnCable}
 use Rattle.bus_reach.specs.Schedule.{cable_turns, cable_heard, cable_origin, cable_rounds}
 use Rattle.bus_medium.specs.Clocks.{gap_behind}
-use Rattle.bus_medium.proofs.CableClocks.{gap_elapsed, gap_waiting, ticks_other, ticks_own, ticks_not_due, ticks_due}
+use Rattle.bus_medium.proofs.CableClocks.{gap_elapsed, gap_waiting, timers_other, timers_own, timers_not_due, timers_due}
 use Rattle.bus_reach.proofs.Knowing.{HasTimers, sender_start}
 use Rattle.bus_schedule.proofs.Growing.{Setting, has_left, sendable}
 use Rattle.bus_schedule.proofs.Greatest.{ends_within, max_within}
@@ -34,17 +34,17 @@ module _ (table : Table) (hands : ℕ → List Message) (n : ℕ) (setting : Set
     (mode : table.mode ≡ Aperiodic) (delay : Delays) (wake : ℕ → ℕ) (zeros : (x : Entry) → delay x x.terminal ≡ 0) where
   -- the numbers of one sender along turns of others that count with it and that it hears at once: it counts from where each ends
   record Counts (c : Sender) (list : List Entry) (from : ℕ) : Type 0 where
-    E : ℕ
-    ended : E ≤ from
-    ticks : HasTimers table hands delay wake c list E (table.sg + wake c.number) (table.sg + from) 0
+    heard_all : ℕ
+    ended : heard_all ≤ from
+    timers : HasTimers table hands delay wake c list heard_all (table.sg + wake c.number) (table.sg + from) 0
 
   -- and where it has spoken: one synchronization gap later
   record Waits (c : Sender) (list : List Entry) (from due_at : ℕ) : Type 0 where
-    E : ℕ
-    ended : E ≤ from
-    G : ℕ
-    near : G ≤ table.sg + from + table.sg
-    ticks : HasTimers table hands delay wake c list E (table.sg + due_at) G 1
+    heard_all : ℕ
+    ended : heard_all ≤ from
+    gap_from : ℕ
+    near : gap_from ≤ table.sg + from + table.sg
+    timers : HasTimers table hands delay wake c list heard_all (table.sg + due_at) gap_from 1
 
   -- turns of others that count from the same moment as this one, and that it and they hear at once
   pub record Level (c : Sender) (order : List Sender) (from : ℕ → ℕ) : Type 0 where
@@ -64,7 +64,7 @@ module _ (table : Table) (hands : ℕ → List Message) (n : ℕ) (setting : Set
   }
 
   counts_start : (c : Sender) → In c table.senders → Counts c [] (wake c.number)
-  counts_start c i = record { E = 0; ended = omega arith; ticks = sender_start table hands n setting delay wake c i mode }
+  counts_start c i = record { heard_all = 0; ended = omega arith; timers = sender_start table hands n setting delay wake c i mode }
 
   counts_on : (c : Sender) (order : List Sender) (list : List Entry) (from : ℕ → ℕ) → 0 < n → In c table.senders → Level c order from → Counts c list (from c.number)
       → Counts c (list ++ cable_turns delay hands 0 order from) (cable_heard delay hands 0 order from c.number)
@@ -72,16 +72,16 @@ module _ (table : Table) (hands : ℕ → List Message) (n : ℕ) (setting : Set
   counts_on c (a ∷ order) list from some c_in level k =
       let x : Entry = sends hands 0 a (from a.number + a.tg) in
       let same : from a.number ≡ from c.number = level.same a (inl refl) in
-      let ended : k.E ≤ from c.number = k.ended in
+      let ended : k.heard_all ≤ from c.number = k.ended in
       let message : Sendable a (hands a.number) 0 (get_or (hands a.number) 0 []) = sendable table hands n setting a 0 (level.there a (inl refl)) some in
       let moved : gap_behind table.sg table.sg (wake c.number) (table.sg + from c.number) (from a.number + a.tg + delay (sends hands 0 a (from a.number + a.tg)) c.number) (heard_end delay (sends hands 0 a (from a.number + a.tg)) c.number)
       ≡ table.sg + heard_end delay (sends hands 0 a (from a.number + a.tg)) c.number =
       gap_elapsed table.sg table.sg (wake c.number) (table.sg + from c.number) (from a.number + a.tg + delay (sends hands 0 a (from a.number + a.tg)) c.number) (heard_end delay (sends hands 0 a (from a.number + a.tg)) c.number) (omega arith) in
       let next : Counts c (list ++ sends hands 0 a (from a.number + a.tg) ∷ []) (heard_end delay (sends hands 0 a (from a.number + a.tg)) c.number) = record {
-        E = heard_end delay (sends hands 0 a (from a.number + a.tg)) c.number;
+        heard_all = heard_end delay (sends hands 0 a (from a.number + a.tg)) c.number;
         ended = omega arith;
-        ticks = subst (λ g. HasTimers table hands delay wake c (list ++ sends hands 0 a (from a.number + a.tg) ∷ []) (heard_end delay (sends hands 0 a (from a.number + a.tg)) c.number) (table.sg + wake c.number) g 0) moved
-            (ticks_other table.sg delay wake (station table hands c) (setting.dealt.sound c c_in) list (sends hands 0 a (from a.number + a.tg)) k.E (table.sg + wake c.number) (table.sg + from c.number) 0 k.ticks (omega arith)
+        timers = subst (λ g. HasTimers table hands delay wake c (list ++ sends hands 0 a (from a.number + a.tg) ∷ []) (heard_end delay (sends hands 0 a (from a.number + a.tg)) c.number) (table.sg + wake c.number) g 0) moved
+            (timers_other table.sg delay wake (station table hands c) (setting.dealt.sound c c_in) list (sends hands 0 a (from a.number + a.tg)) k.heard_all (table.sg + wake c.number) (table.sg + from c.number) 0 k.timers (omega arith)
             (level.apart a (inl refl)) message.some);
       } in
       subst (λ l. Counts c l (cable_heard delay hands 0 (a ∷ order) from c.number)) (append_assoc list (x ∷ []) (cable_turns delay hands 0 order (heard_end delay x)))
@@ -147,11 +147,11 @@ module _ (table : Table) (hands : ℕ → List Message) (n : ℕ) (setting : Set
         ];
       } in
       let k = counts_on c pre [] wake some c_in level (counts_start c c_in) in
-      let ended : k.E ≤ cable_heard delay hands 0 pre wake c.number = k.ended in
+      let ended : k.heard_all ≤ cable_heard delay hands 0 pre wake c.number = k.ended in
       let left : 0 < length (hands c.number) = has_left table hands n setting c 0 c_in some in
       let due : IsDueOnCable table.sg delay wake (cable_turns delay hands 0 pre wake) (station table hands c) (cable_heard delay hands 0 pre wake c.number + c.tg) =
-      ticks_due table.sg delay wake (station table hands c) (setting.dealt.sound c c_in) (cable_turns delay hands 0 pre wake) k.E (table.sg + wake c.number) (table.sg + cable_heard delay hands 0 pre wake c.number) 0
-      (cable_heard delay hands 0 pre wake c.number + c.tg) k.ticks (omega arith) (omega arith) (omega arith) left in
+      timers_due table.sg delay wake (station table hands c) (setting.dealt.sound c c_in) (cable_turns delay hands 0 pre wake) k.heard_all (table.sg + wake c.number) (table.sg + cable_heard delay hands 0 pre wake c.number) 0
+      (cable_heard delay hands 0 pre wake c.number + c.tg) k.timers (omega arith) (omega arith) (omega arith) left in
       let due_there : IsDueOnCable table.sg delay wake (cable_rounds delay wake hands table.sg (turn_order table) n) (station table hands c) (cable_heard delay hands 0 pre wake c.number + c.tg) =
       subst (λ l. IsDueOnCable table.sg delay wake l (station table hands c) (cable_heard delay hands 0 pre wake c.number + c.tg)) (sym list_is)
       ((due_unheard table.sg delay wake (cable_turns delay hands 0 pre wake) ((x ∷ rest) ++ first.0) (station table hands c) (cable_heard delay hands 0 pre wake c.number + c.tg) unheard).1 due) in
@@ -208,8 +208,8 @@ module _ (table : Table) (hands : ℕ → List Message) (n : ℕ) (setting : Set
       (subst (λ l. IsDueOnCable table.sg delay wake l (station table hands g) own.moment) list_is due) in
       let opening : Sendable f (hands f.number) 0 (get_or (hands f.number) 0 []) = sendable table hands n setting f 0 f_in some in
       let start = sender_start table hands n setting delay wake g g_in mode in
-      let then = ticks_other table.sg delay wake (station table hands g) (setting.dealt.sound g g_in) [] x 0 (table.sg + wake g.number) (table.sg + wake g.number) 0 start (omega arith) apart opening.some in
-      ticks_not_due table.sg delay wake (station table hands g) (setting.dealt.sound g g_in) ([] ++ x ∷ []) (H g.number) (table.sg + wake g.number)
+      let then = timers_other table.sg delay wake (station table hands g) (setting.dealt.sound g g_in) [] x 0 (table.sg + wake g.number) (table.sg + wake g.number) 0 start (omega arith) apart opening.some in
+      timers_not_due table.sg delay wake (station table hands g) (setting.dealt.sound g g_in) ([] ++ x ∷ []) (H g.number) (table.sg + wake g.number)
       (gap_behind table.sg table.sg (wake g.number) (table.sg + wake g.number) (wake f.number + f.tg + delay (sends hands 0 f (wake f.number + f.tg)) g.number) (H g.number)) 0 own.moment then (omega arith)
       (inl (omega (
         arith,
@@ -226,13 +226,13 @@ module _ (table : Table) (hands : ℕ → List Message) (n : ℕ) (setting : Set
       let message : Sendable f (hands f.number) 0 (get_or (hands f.number) 0 []) = sendable table hands n setting f 0 f_in some in
       let x : Entry = sends hands 0 f (wake f.number + f.tg) in
       record {
-        E = heard_end delay (sends hands 0 f (wake f.number + f.tg)) f.number;
+        heard_all = heard_end delay (sends hands 0 f (wake f.number + f.tg)) f.number;
         ended = omega arith;
-        G = table.sg + heard_end delay (sends hands 0 f (wake f.number + f.tg)) f.number + table.sg;
+        gap_from = table.sg + heard_end delay (sends hands 0 f (wake f.number + f.tg)) f.number + table.sg;
         near = omega arith;
-        ticks = subst (λ d. HasTimers table hands delay wake f ([] ++ x ∷ []) (heard_end delay x f.number) d (table.sg + heard_end delay x f.number + table.sg) 1)
+        timers = subst (λ d. HasTimers table hands delay wake f ([] ++ x ∷ []) (heard_end delay x f.number) d (table.sg + heard_end delay x f.number + table.sg) 1)
             (let e : table.sg + (wake f.number + f.tg) + table.ti ≡ table.sg + (wake f.number + f.tg + table.ti) = omega arith in e)
-            (ticks_own table.sg delay wake (station table hands f) (setting.dealt.sound f f_in) [] x 0 (table.sg + wake f.number) (table.sg + wake f.number) 0 (sender_start table hands n setting delay wake f f_in mode)
+            (timers_own table.sg delay wake (station table hands f) (setting.dealt.sound f f_in) [] x 0 (table.sg + wake f.number) (table.sg + wake f.number) 0 (sender_start table hands n setting delay wake f f_in mode)
             (omega arith) refl (zeros x) (omega arith) message.some);
       }
 
@@ -243,21 +243,21 @@ module _ (table : Table) (hands : ℕ → List Message) (n : ℕ) (setting : Set
   waits_on c (a ∷ order) list from due_at some c_in level awake k =
       let x : Entry = sends hands 0 a (from a.number + a.tg) in
       let same : from a.number ≡ from c.number = level.same a (inl refl) in
-      let ended : k.E ≤ from c.number = k.ended in
+      let ended : k.heard_all ≤ from c.number = k.ended in
       let message : Sendable a (hands a.number) 0 (get_or (hands a.number) 0 []) = sendable table hands n setting a 0 (level.there a (inl refl)) some in
       let next : Waits c (list ++ sends hands 0 a (from a.number + a.tg) ∷ []) (heard_end delay (sends hands 0 a (from a.number + a.tg)) c.number) due_at = record {
-        E = heard_end delay (sends hands 0 a (from a.number + a.tg)) c.number;
+        heard_all = heard_end delay (sends hands 0 a (from a.number + a.tg)) c.number;
         ended = omega arith;
-        G = gap_behind table.sg table.sg (wake c.number) k.G (from a.number + a.tg + delay (sends hands 0 a (from a.number + a.tg)) c.number) (heard_end delay (sends hands 0 a (from a.number + a.tg)) c.number);
-        near = elim (cases_lt (table.sg + (from a.number + a.tg + delay (sends hands 0 a (from a.number + a.tg)) c.number)) k.G) [
+        gap_from = gap_behind table.sg table.sg (wake c.number) k.gap_from (from a.number + a.tg + delay (sends hands 0 a (from a.number + a.tg)) c.number) (heard_end delay (sends hands 0 a (from a.number + a.tg)) c.number);
+        near = elim (cases_lt (table.sg + (from a.number + a.tg + delay (sends hands 0 a (from a.number + a.tg)) c.number)) k.gap_from) [
           | inl waits ↦ omega (
             arith,
-            gap_waiting table.sg table.sg (wake c.number) k.G (from a.number + a.tg + delay (sends hands 0 a (from a.number + a.tg)) c.number) (heard_end delay (sends hands 0 a (from a.number + a.tg)) c.number) waits,
+            gap_waiting table.sg table.sg (wake c.number) k.gap_from (from a.number + a.tg + delay (sends hands 0 a (from a.number + a.tg)) c.number) (heard_end delay (sends hands 0 a (from a.number + a.tg)) c.number) waits,
             max_low (table.sg + heard_end delay (sends hands 0 a (from a.number + a.tg)) c.number + table.sg) (table.sg + wake c.number) (omega arith),
           )
-          | inr elapsed ↦ omega (arith, gap_elapsed table.sg table.sg (wake c.number) k.G (from a.number + a.tg + delay (sends hands 0 a (from a.number + a.tg)) c.number) (heard_end delay (sends hands 0 a (from a.number + a.tg)) c.number) elapsed)
+          | inr elapsed ↦ omega (arith, gap_elapsed table.sg table.sg (wake c.number) k.gap_from (from a.number + a.tg + delay (sends hands 0 a (from a.number + a.tg)) c.number) (heard_end delay (sends hands 0 a (from a.number + a.tg)) c.number) elapsed)
         ];
-        ticks = ticks_other table.sg delay wake (station table hands c) (setting.dealt.sound c c_in) list (sends hands 0 a (from a.number + a.tg)) k.E (table.sg + due_at) k.G 1 k.ticks (omega arith) (level.apart a (inl refl)) message.some;
+        timers = timers_other table.sg delay wake (station table hands c) (setting.dealt.sound c c_in) list (sends hands 0 a (from a.number + a.tg)) k.heard_all (table.sg + due_at) k.gap_from 1 k.timers (omega arith) (level.apart a (inl refl)) message.some;
       } in
       subst (λ l. Waits c l (cable_heard delay hands 0 (a ∷ order) from c.number) due_at) (append_assoc list (x ∷ []) (cable_turns delay hands 0 order (heard_end delay x)))
       (waits_on c order (list ++ sends hands 0 a (from a.number + a.tg) ∷ []) (heard_end delay (sends hands 0 a (from a.number + a.tg))) due_at some c_in
@@ -279,24 +279,24 @@ module _ (table : Table) (hands : ℕ → List Message) (n : ℕ) (setting : Set
       let x : Entry = sends hands 0 f (wake f.number + f.tg) in
       let H : ℕ → ℕ = heard_end delay x in
       let y : Entry = sends hands 0 l (heard_behind delay hands wake f mid l.number + l.tg) in
-      let E : ℕ = heard_end delay y f.number in
-      let m : ℕ = max (E + f.tg) (wake f.number + f.tg + table.ti) in
-      let m_low = max_within (E + f.tg) (wake f.number + f.tg + table.ti) in
+      let heard_all : ℕ = heard_end delay y f.number in
+      let m : ℕ = max (heard_all + f.tg) (wake f.number + f.tg + table.ti) in
+      let m_low = max_within (heard_all + f.tg) (wake f.number + f.tg + table.ti) in
       let sg_some : 9 ≤ table.sg = setting.dealt.facts.sg_least in
-      let m_high : m < E + table.sg + f.tg = below_both (E + f.tg) (wake f.number + f.tg + table.ti) (E + table.sg + f.tg) (omega arith) (omega arith) in
+      let m_high : m < heard_all + table.sg + f.tg = below_both (heard_all + f.tg) (wake f.number + f.tg + table.ti) (heard_all + table.sg + f.tg) (omega arith) (omega arith) in
       let w = waits_on f mid ([] ++ x ∷ []) H (wake f.number + f.tg + table.ti) some f_in level (omega arith) (waits_start f some f_in) in
-      let ended : w.E ≤ heard_behind delay hands wake f mid f.number = w.ended in
-      let near : w.G ≤ table.sg + heard_behind delay hands wake f mid f.number + table.sg = w.near in
+      let ended : w.heard_all ≤ heard_behind delay hands wake f mid f.number = w.ended in
+      let near : w.gap_from ≤ table.sg + heard_behind delay hands wake f mid f.number + table.sg = w.near in
       let message : Sendable l (hands l.number) 0 (get_or (hands l.number) 0 []) = sendable table hands n setting l 0 l_in some in
       let all : List Entry = (([] ++ x ∷ []) ++ cable_turns delay hands 0 mid H) ++ y ∷ [] in
-      let moved : gap_behind table.sg table.sg (wake f.number) w.G (heard_behind delay hands wake f mid l.number + l.tg + delay (sends hands 0 l (heard_behind delay hands wake f mid l.number + l.tg)) f.number) E ≡ table.sg + E =
-      gap_elapsed table.sg table.sg (wake f.number) w.G (heard_behind delay hands wake f mid l.number + l.tg + delay (sends hands 0 l (heard_behind delay hands wake f mid l.number + l.tg)) f.number) E (omega arith) in
-      let ticks : HasTimers table hands delay wake f all E (table.sg + (wake f.number + f.tg + table.ti)) (table.sg + E) 1 =
-      subst (λ g. HasTimers table hands delay wake f all E (table.sg + (wake f.number + f.tg + table.ti)) g 1) moved
-      (ticks_other table.sg delay wake (station table hands f) (setting.dealt.sound f f_in) (([] ++ x ∷ []) ++ cable_turns delay hands 0 mid H) y w.E (table.sg + (wake f.number + f.tg + table.ti)) w.G 1 w.ticks (omega arith) apart message.some) in
+      let moved : gap_behind table.sg table.sg (wake f.number) w.gap_from (heard_behind delay hands wake f mid l.number + l.tg + delay (sends hands 0 l (heard_behind delay hands wake f mid l.number + l.tg)) f.number) heard_all ≡ table.sg + heard_all =
+      gap_elapsed table.sg table.sg (wake f.number) w.gap_from (heard_behind delay hands wake f mid l.number + l.tg + delay (sends hands 0 l (heard_behind delay hands wake f mid l.number + l.tg)) f.number) heard_all (omega arith) in
+      let timers : HasTimers table hands delay wake f all heard_all (table.sg + (wake f.number + f.tg + table.ti)) (table.sg + heard_all) 1 =
+      subst (λ g. HasTimers table hands delay wake f all heard_all (table.sg + (wake f.number + f.tg + table.ti)) g 1) moved
+      (timers_other table.sg delay wake (station table hands f) (setting.dealt.sound f f_in) (([] ++ x ∷ []) ++ cable_turns delay hands 0 mid H) y w.heard_all (table.sg + (wake f.number + f.tg + table.ti)) w.gap_from 1 w.timers (omega arith) apart message.some) in
       let left : 1 < length (hands f.number) = has_left table hands n setting f 1 f_in more in
       let due : IsDueOnCable table.sg delay wake all (station table hands f) m =
-      ticks_due table.sg delay wake (station table hands f) (setting.dealt.sound f f_in) all E (table.sg + (wake f.number + f.tg + table.ti)) (table.sg + E) 1 m ticks
+      timers_due table.sg delay wake (station table hands f) (setting.dealt.sound f f_in) all heard_all (table.sg + (wake f.number + f.tg + table.ti)) (table.sg + heard_all) 1 m timers
       (omega (arith, m_low.0)) (omega (arith, m_low.0)) (omega (arith, m_low.1)) left in
       let order : List Sender = f ∷ (mid ++ l ∷ []) in
       let so = has_tail delay wake hands table.sg f (mid ++ l ∷ []) (n - 1) in
@@ -304,7 +304,7 @@ module _ (table : Table) (hands : ℕ → List Message) (n : ℕ) (setting : Set
       let list_is : cable_rounds delay wake hands table.sg (turn_order table) n ≡ all ++ so.tail =
       ap (λ o. cable_rounds delay wake hands table.sg o n) split ∙ ap (cable_rounds delay wake hands table.sg order) n_is ∙ so.is
       ∙ ap (λ r. (x ∷ r) ++ so.tail) (turns_append delay wake hands table.sg 0 mid (l ∷ []) H) in
-      let next_is : cable_origin delay wake hands table.sg order 1 f.number + f.tg ≡ E + table.sg + f.tg =
+      let next_is : cable_origin delay wake hands table.sg order 1 f.number + f.tg ≡ heard_all + table.sg + f.tg =
       ap (λ v. v + table.sg + f.tg) (heard_append_turns delay wake hands table.sg 0 mid (l ∷ []) H f.number) in
       let tail_low : (z : Entry) → In z so.tail → m < z.moment = λ z i. omega (arith, so.low z i) in
       let unheard : IsUnheard delay f.number m so.tail = record { heard = λ z i. omega (arith, tail_low z i); own = λ z i own. omega (arith, tail_low z i) } in
@@ -316,7 +316,7 @@ module _ (table : Table) (hands : ℕ → List Message) (n : ℕ) (setting : Set
       let ends : end_of own ≤ greatest_end (cable_rounds delay wake hands table.sg (turn_order table) n) = ends_within (cable_rounds delay wake hands table.sg (turn_order table) n) own own_in in
       let has : HasEntry (cable_rounds delay wake hands table.sg (turn_order table) n) f.number m =
       has_one (cable_rounds delay wake hands table.sg (turn_order table) n) (greatest_end (cable_rounds delay wake hands table.sg (turn_order table) n)) ruled f m f_in
-      (before_end m E table.sg f.tg (cable_origin delay wake hands table.sg order 1 f.number + f.tg) (bits (get_or (hands f.number) 1 [])) (greatest_end (cable_rounds delay wake hands table.sg (turn_order table) n)) m_high next_is ends) due_there in
+      (before_end m heard_all table.sg f.tg (cable_origin delay wake hands table.sg order 1 f.number + f.tg) (bits (get_or (hands f.number) 1 [])) (greatest_end (cable_rounds delay wake hands table.sg (turn_order table) n)) m_high next_is ends) due_there in
       let moment : has.entry.moment ≡ m = has.moment in
       elim (in_append_cases all so.tail has.entry (subst (λ k. In has.entry k) list_is has.there)) [
         | inl round ↦ elim (in_append_cases (([] ++ x ∷ []) ++ cable_turns delay hands 0 mid H) (y ∷ []) has.entry round) [

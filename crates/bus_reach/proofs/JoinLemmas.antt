@@ -73,10 +73,10 @@ module _ (table : Table) (hands : ℕ → List Message) (n : ℕ) (setting : Set
     lo = wake first.number - spread;
     t = 0;
     last = 0;
-    E = λ _. 0;
-    D = λ k. table.sg + wake k;
-    G = λ k. table.sg + wake k;
-    C = λ _. 0;
+    heard_all = λ _. 0;
+    due = λ k. table.sg + wake k;
+    gap_from = λ k. table.sg + wake k;
+    sent = λ _. 0;
     known = known_none table hands n setting delay wake tolerant.own mode;
     ended = λ b i. omega arith;
     first_gap = refl;
@@ -88,7 +88,7 @@ module _ (table : Table) (hands : ℕ → List Message) (n : ℕ) (setting : Set
     wide = inl refl;
     laid = tt;
     some = λ x i. absurd i;
-    due = λ b i. inl (omega arith);
+    due_by = λ b i. inl (omega arith);
     absent = λ b i not. ap (λ (v : Bool). cond v (b.tg + shortest b) 0) not;
     count_is = λ b i. refl;
     count_most = λ b i. omega arith;
@@ -120,7 +120,7 @@ joining_is_orderly table hands most delay wake valid mode even delays bearing aw
       ]
     ] in
     let begin = rounds_grow table (messages_of hands) (rounds hands) setting mode delay wake so.spread 0 (so.tolerant 0 (inl (omega arith))) first others order_is early long (rounds hands) (omega arith) in
-    let ruled = known_ruled table (messages_of hands) (rounds hands) setting delay wake delays.own (growing delay wake table hands) begin.t begin.last begin.E begin.D begin.G begin.C begin.known in
+    let ruled = known_ruled table (messages_of hands) (rounds hands) setting delay wake delays.own (growing delay wake table hands) begin.t begin.last begin.heard_all begin.due begin.gap_from begin.sent begin.known in
     let lawful : IsLawfulOnCable (quiet_of table) delay wake (stations_of table hands) (greatest_end (growing delay wake table hands)) (growing delay wake table hands) =
     subst (λ ss. IsLawfulOnCable (quiet_of table) delay wake ss (greatest_end (growing delay wake table hands)) (growing delay wake table hands)) (sym (stations_of_dealt table hands valid dealt))
     (subst (λ q. IsLawfulOnCable q delay wake (stations table (messages_of hands)) (greatest_end (growing delay wake table hands)) (growing delay wake table hands)) (sym (quiet_is table mode))

@@ -65,11 +65,11 @@ pub record Turn (table : Table) (hands : ℕ → List Message) (delay : Delays) 
   pub lo : ℕ
   pub t : ℕ
   pub last : ℕ
-  pub D : ℕ → ℕ
-  pub G : ℕ → ℕ
-  pub C : ℕ → ℕ
+  pub due : ℕ → ℕ
+  pub gap_from : ℕ → ℕ
+  pub sent : ℕ → ℕ
   pub split : turn_order table ≡ prefix ++ suffix
-  pub known : ScheduledSoFar table hands delay wake list t last from D G C
+  pub known : ScheduledSoFar table hands delay wake list t last from due gap_from sent
   pub low : (b : Sender) → In b table.senders → lo ≤ from b.number
   pub high : (b : Sender) → In b table.senders → from b.number ≤ lo + spread
   pub last_low : last ≤ lo
@@ -79,13 +79,13 @@ pub record Turn (table : Table) (hands : ℕ → List Message) (delay : Delays) 
   pub awake : wake first.number ≤ lo
   pub settled : (b : Sender) → In b table.senders → (share b ≡ 0) ⊎ (wake b.number ≤ lo + spread)
   pub absent : (b : Sender) → In b suffix → p b ≡ false → share b ≡ 0
-  pub waiting : (b : Sender) → In b suffix → p b ≡ true → G b.number ≡ table.sg + from b.number
-  pub idle : (b : Sender) → In b table.senders → IsOut p prefix suffix b → G b.number ≡ max (table.sg + from b.number + table.sg) (table.sg + wake b.number)
-  pub due_waiting : (b : Sender) → In b suffix → (D b.number ≤ table.sg + wake b.number) ⊎ (D b.number ≤ table.sg + lo + before share suffix b.number + b.tg)
+  pub waiting : (b : Sender) → In b suffix → p b ≡ true → gap_from b.number ≡ table.sg + from b.number
+  pub idle : (b : Sender) → In b table.senders → IsOut p prefix suffix b → gap_from b.number ≡ max (table.sg + from b.number + table.sg) (table.sg + wake b.number)
+  pub due_waiting : (b : Sender) → In b suffix → (due b.number ≤ table.sg + wake b.number) ⊎ (due b.number ≤ table.sg + lo + before share suffix b.number + b.tg)
   pub due_idle : (b : Sender) → In b table.senders → IsOut p prefix suffix b
-      → (D b.number ≤ table.sg + wake b.number) ⊎ (D b.number ≤ table.sg + lo + total share suffix + table.sg + before share (turn_order table) b.number + b.tg)
-  pub count_waiting : (b : Sender) → In b suffix → C b.number ≡ count b.number
-  pub count_spoken : (b : Sender) → In b prefix → C b.number ≡ count b.number + (if p b then 1 else 0)
+      → (due b.number ≤ table.sg + wake b.number) ⊎ (due b.number ≤ table.sg + lo + total share suffix + table.sg + before share (turn_order table) b.number + b.tg)
+  pub count_waiting : (b : Sender) → In b suffix → sent b.number ≡ count b.number
+  pub count_spoken : (b : Sender) → In b prefix → sent b.number ≡ count b.number + (if p b then 1 else 0)
 
 -- Before a round begins
 pub record Begin (table : Table) (hands : ℕ → List Message) (delay : Delays) (wake : ℕ → ℕ) (spread room : ℕ) (share : Sender → ℕ) (first : Sender)
@@ -93,25 +93,25 @@ pub record Begin (table : Table) (hands : ℕ → List Message) (delay : Delays)
   pub lo : ℕ
   pub t : ℕ
   pub last : ℕ
-  pub E : ℕ → ℕ
-  pub D : ℕ → ℕ
-  pub G : ℕ → ℕ
-  pub C : ℕ → ℕ
-  pub known : ScheduledSoFar table hands delay wake list t last E D G C
-  pub ended : (b : Sender) → In b table.senders → E b.number ≤ lo + spread
-  pub first_gap : G first.number ≡ table.sg + from first.number
+  pub heard_all : ℕ → ℕ
+  pub due : ℕ → ℕ
+  pub gap_from : ℕ → ℕ
+  pub sent : ℕ → ℕ
+  pub known : ScheduledSoFar table hands delay wake list t last heard_all due gap_from sent
+  pub ended : (b : Sender) → In b table.senders → heard_all b.number ≤ lo + spread
+  pub first_gap : gap_from first.number ≡ table.sg + from first.number
   pub first_low : lo ≤ from first.number
   pub first_high : from first.number ≤ lo + spread
-  pub low : (b : Sender) → In b table.senders → table.sg + lo ≤ G b.number
-  pub high : (b : Sender) → In b table.senders → (G b.number ≤ table.sg + wake b.number) ⊎ (G b.number ≤ table.sg + lo + spread)
+  pub low : (b : Sender) → In b table.senders → table.sg + lo ≤ gap_from b.number
+  pub high : (b : Sender) → In b table.senders → (gap_from b.number ≤ table.sg + wake b.number) ⊎ (gap_from b.number ≤ table.sg + lo + spread)
   pub last_low : last ≤ lo
   pub wide : (last ≡ 0) ⊎ (last + table.sg ≤ lo)
   pub laid : IsOrdered (λ x y. end_of x + room ≤ y.moment) list
   pub some : (x : Entry) → In x list → 0 < end_of x
-  pub due : (b : Sender) → In b table.senders
-      → (D b.number ≤ table.sg + wake b.number) ⊎ (D b.number ≤ table.sg + lo + before share (turn_order table) b.number + b.tg)
+  pub due_by : (b : Sender) → In b table.senders
+      → (due b.number ≤ table.sg + wake b.number) ⊎ (due b.number ≤ table.sg + lo + before share (turn_order table) b.number + b.tg)
   pub absent : (b : Sender) → In b table.senders → hears_awake delay wake (sends hands (count first.number) first (from first.number + first.tg)) b ≡ false → share b ≡ 0
-  pub count_is : (b : Sender) → In b table.senders → C b.number ≡ count b.number
+  pub count_is : (b : Sender) → In b table.senders → sent b.number ≡ count b.number
   pub count_most : (b : Sender) → In b table.senders → count b.number ≤ round
 
 module _ (table : Table) (hands : ℕ → List Message) (n : ℕ) (setting : Setting table hands n) (mode : table.mode ≡ Aperiodic) (delay : Delays) (wake : ℕ → ℕ) (spread room : ℕ)
@@ -167,13 +167,13 @@ module _ (table : Table) (hands : ℕ → List Message) (n : ℕ) (setting : Set
     no_lag : delay x a.number ≡ 0
     no_lag = tolerant.own x
 
-    gap_is : t.G a.number ≡ table.sg + from a.number
+    gap_is : t.gap_from a.number ≡ table.sg + from a.number
     gap_is = t.waiting a (inl refl) member
 
     -- one that is out waits for a synchronization gap
-    waits : (b : Sender) → In b table.senders → IsOut p prefix suffix b → table.sg + (x.moment + delay x b.number) < t.G b.number
+    waits : (b : Sender) → In b table.senders → IsOut p prefix suffix b → table.sg + (x.moment + delay x b.number) < t.gap_from b.number
     waits b i out =
-        let is : t.G b.number ≡ max (table.sg + from b.number + table.sg) (table.sg + wake b.number) = t.idle b i (elim out [ inl spoken ↦ inl spoken | inr not ↦ inr (inr not.0, not.1) ]) in
+        let is : t.gap_from b.number ≡ max (table.sg + from b.number + table.sg) (table.sg + wake b.number) = t.idle b i (elim out [ inl spoken ↦ inl spoken | inr not ↦ inr (inr not.0, not.1) ]) in
         let low : t.lo ≤ from b.number = t.low b i in
         let high : from a.number ≤ t.lo + spread = t.high a there in
         let d : delay x b.number ≤ spread = lag b i in
@@ -193,11 +193,11 @@ module _ (table : Table) (hands : ℕ → List Message) (n : ℕ) (setting : Set
           ]
         ]
 
-    goes : StartsNext table hands delay n t.last from t.D t.G t.C a (count a.number) (from a.number + a.tg)
-    goes =
+    starts : StartsNext table hands delay n t.last from t.due t.gap_from t.sent a (count a.number) (from a.number + a.tg)
+    starts =
         let low : t.lo ≤ from a.number = t.low a there in
         let last_low : t.last ≤ t.lo = t.last_low in
-        let woken : table.sg + wake a.number ≤ t.G a.number = woken table hands delay wake list t.t t.last from t.D t.G t.C t.known a there in
+        let woken : table.sg + wake a.number ≤ t.gap_from a.number = woken table hands delay wake list t.t t.last from t.due t.gap_from t.sent t.known a there in
         record {
           behind = omega arith;
           ready = λ b i.
@@ -212,7 +212,7 @@ module _ (table : Table) (hands : ℕ → List Message) (n : ℕ) (setting : Set
           slow = λ b i other. elim (cases b i other) [
             | inl out ↦ inl (omega (arith, waits b i out))
             | inr later ↦
-                let g : t.G b.number ≡ table.sg + from b.number = t.waiting b (inr later.0) later.1 in
+                let g : t.gap_from b.number ≡ table.sg + from b.number = t.waiting b (inr later.0) later.1 in
                 let low_b : t.lo ≤ from b.number = t.low b i in
                 let high : from a.number ≤ t.lo + spread = t.high a there in
                 let d : delay x b.number ≤ spread = lag b i in
@@ -240,29 +240,29 @@ module _ (table : Table) (hands : ℕ → List Message) (n : ℕ) (setting : Set
 
     -- those that are out stay out, and this one now is
     idle_then : (b : Sender) → In b table.senders → IsOut p (prefix ++ a ∷ []) suffix b
-        → gap_from_behind table delay wake t.G a x b.number
+        → gap_from_behind table delay wake t.gap_from a x b.number
         ≡ max (table.sg + heard_end delay x b.number + table.sg) (table.sg + wake b.number)
     idle_then b i out =
         elim (cases_eq b.number a.number) [
           | inl here ↦
               let is : b ≡ a = same a b there i here in
-              let woken : table.sg + wake b.number ≤ t.G b.number = woken table hands delay wake list t.t t.last from t.D t.G t.C t.known b i in
-              let g : t.G b.number ≡ table.sg + from a.number = ap (λ (c : Sender). t.G c.number) is ∙ gap_is in
-              steps.goes_here table.sg table.sg delay wake t.G a.number x b.number here
+              let woken : table.sg + wake b.number ≤ t.gap_from b.number = woken table hands delay wake list t.t t.last from t.due t.gap_from t.sent t.known b i in
+              let g : t.gap_from b.number ≡ table.sg + from a.number = ap (λ (c : Sender). t.gap_from c.number) is ∙ gap_is in
+              steps.gap_from_here table.sg table.sg delay wake t.gap_from a.number x b.number here
               ∙ max_first (table.sg + heard_end delay x b.number + table.sg) (table.sg + wake b.number) (omega arith)
           | inr other ↦
               let was : IsOut p prefix suffix b = elim out [
                 | inl spoken ↦ elim (in_push_cases prefix a b spoken) [ inl old ↦ inl old | inr now ↦ absurd (other (ap (λ (c : Sender). c.number) now)) ]
                 | inr not ↦ inr not
               ] in
-              steps.goes_other table.sg table.sg delay wake t.G a.number x b.number other
-              ∙ gap_waiting table.sg table.sg (wake b.number) (t.G b.number) (x.moment + delay x b.number)
+              steps.gap_from_other table.sg table.sg delay wake t.gap_from a.number x b.number other
+              ∙ gap_waiting table.sg table.sg (wake b.number) (t.gap_from b.number) (x.moment + delay x b.number)
               (heard_end delay x b.number) (waits b i was)
         ]
 
     due_idle_then : (b : Sender) → In b table.senders → IsOut p (prefix ++ a ∷ []) suffix b
-        → (due_behind table t.D a (from a.number + a.tg) b.number ≤ table.sg + wake b.number)
-        ⊎ (due_behind table t.D a (from a.number + a.tg) b.number
+        → (due_behind table t.due a (from a.number + a.tg) b.number ≤ table.sg + wake b.number)
+        ⊎ (due_behind table t.due a (from a.number + a.tg) b.number
         ≤ table.sg + end_of x + total share suffix + table.sg + before share (turn_order table) b.number + b.tg)
     due_idle_then b i out =
         let low : t.lo ≤ from a.number = t.low a there in
@@ -276,13 +276,13 @@ module _ (table : Table) (hands : ℕ → List Message) (n : ℕ) (setting : Set
               ap (λ (c : Sender). before share (turn_order table) c.number) is ∙ ap (λ o. before share o a.number) t.split
               ∙ before_middle share prefix a suffix (λ c j e. apart_prefix c j (sym e)) in
               let whole : total share (turn_order table) ≡ total share prefix + (share a + total share suffix) = ap (total share) t.split ∙ total_middle share prefix a suffix in
-              inr (omega (arith, put_here t.D a.number (table.sg + (from a.number + a.tg) + table.ti) b.number here, long))
+              inr (omega (arith, put_here t.due a.number (table.sg + (from a.number + a.tg) + table.ti) b.number here, long))
           | inr other ↦
               let was : IsOut p prefix (a ∷ suffix) b = elim out [
                 | inl spoken ↦ elim (in_push_cases prefix a b spoken) [ inl old ↦ inl old | inr now ↦ absurd (other (ap (λ (c : Sender). c.number) now)) ]
                 | inr not ↦ inr (inr not.0, not.1)
               ] in
-              let kept = put_other t.D a.number (table.sg + (from a.number + a.tg) + table.ti) b.number other in
+              let kept = put_other t.due a.number (table.sg + (from a.number + a.tg) + table.ti) b.number other in
               elim (t.due_idle b i was) [
                 | inl never ↦ inl (omega (arith, kept))
                 | inr so ↦ inr (omega (arith, kept))
@@ -298,11 +298,11 @@ module _ (table : Table) (hands : ℕ → List Message) (n : ℕ) (setting : Set
           lo = end_of x;
           t = from a.number + a.tg + 1;
           last = end_of x;
-          D = due_behind table t.D a (from a.number + a.tg);
-          G = gap_from_behind table delay wake t.G a x;
-          C = sent_behind t.C a;
+          due = due_behind table t.due a (from a.number + a.tg);
+          gap_from = gap_from_behind table delay wake t.gap_from a x;
+          sent = sent_behind t.sent a;
           split = t.split ∙ sym (append_assoc prefix (a ∷ []) suffix);
-          known = known_step table hands n setting delay wake tolerant.own list t.t t.last from t.D t.G t.C a (count a.number) (from a.number + a.tg) there t.known goes;
+          known = known_step table hands n setting delay wake tolerant.own list t.t t.last from t.due t.gap_from t.sent a (count a.number) (from a.number + a.tg) there t.known starts;
           low = λ b i. omega arith;
           high = λ b i. omega (arith, lag b i);
           last_low = omega arith;
@@ -316,15 +316,15 @@ module _ (table : Table) (hands : ℕ → List Message) (n : ℕ) (setting : Set
           settled = λ b i. elim (t.settled b i) [ inl none ↦ inl none | inr awake ↦ inr (omega arith) ];
           absent = λ b i. t.absent b (inr i);
           waiting = λ b i yes'.
-              let g : t.G b.number ≡ table.sg + from b.number = t.waiting b (inr i) yes' in
+              let g : t.gap_from b.number ≡ table.sg + from b.number = t.waiting b (inr i) yes' in
               let h : from b.number ≤ t.lo + spread = t.high b (in_suffix b (inr i)) in
               let k : spread ≤ a.tg = tolerant.least a there in
-              steps.goes_other table.sg table.sg delay wake t.G a.number x b.number (apart_suffix b i)
-              ∙ gap_elapsed table.sg table.sg (wake b.number) (t.G b.number) (x.moment + delay x b.number)
+              steps.gap_from_other table.sg table.sg delay wake t.gap_from a.number x b.number (apart_suffix b i)
+              ∙ gap_elapsed table.sg table.sg (wake b.number) (t.gap_from b.number) (x.moment + delay x b.number)
               (heard_end delay x b.number) (omega arith);
           idle = idle_then;
           due_waiting = λ b i.
-              let kept = put_other t.D a.number (table.sg + (from a.number + a.tg) + table.ti) b.number (apart_suffix b i) in
+              let kept = put_other t.due a.number (table.sg + (from a.number + a.tg) + table.ti) b.number (apart_suffix b i) in
               let least : shortest a ≤ bits (get_or (hands a.number) (count a.number) []) = message.least in
               let most_a : share a ≤ a.tg + shortest a = share_most a in
               elim (t.due_waiting b (inr i)) [
@@ -332,14 +332,14 @@ module _ (table : Table) (hands : ℕ → List Message) (n : ℕ) (setting : Set
                 | inr so ↦ inr (omega (arith, kept, before_there share a suffix b.number (apart_suffix b i)))
               ];
           due_idle = due_idle_then;
-          count_waiting = λ b i. put_other t.C a.number (t.C a.number + 1) b.number (apart_suffix b i) ∙ t.count_waiting b (inr i);
+          count_waiting = λ b i. put_other t.sent a.number (t.sent a.number + 1) b.number (apart_suffix b i) ∙ t.count_waiting b (inr i);
           count_spoken = λ b i. elim (in_push_cases prefix a b i) [
-            | inl old ↦ put_other t.C a.number (t.C a.number + 1) b.number (apart_prefix b old) ∙ t.count_spoken b old
+            | inl old ↦ put_other t.sent a.number (t.sent a.number + 1) b.number (apart_prefix b old) ∙ t.count_spoken b old
             | inr now ↦
                 let number : b.number ≡ a.number = ap (λ (c : Sender). c.number) now in
                 let passes : p b ≡ true = ap p now ∙ member in
-                let counted : t.C a.number ≡ count b.number = t.count_waiting a (inl refl) ∙ ap count (sym number) in
-                put_here t.C a.number (t.C a.number + 1) b.number number ∙ ap (λ v. v + 1) counted ∙ ap (λ (v : Bool). count b.number + cond v 1 0) (sym passes)
+                let counted : t.sent a.number ≡ count b.number = t.count_waiting a (inl refl) ∙ ap count (sym number) in
+                put_here t.sent a.number (t.sent a.number + 1) b.number number ∙ ap (λ v. v + 1) counted ∙ ap (λ (v : Bool). count b.number + cond v 1 0) (sym passes)
           ];
         }
 
@@ -360,9 +360,9 @@ module _ (table : Table) (hands : ℕ → List Message) (n : ℕ) (setting : Set
         lo = t.lo;
         t = t.t;
         last = t.last;
-        D = t.D;
-        G = t.G;
-        C = t.C;
+        due = t.due;
+        gap_from = t.gap_from;
+        sent = t.sent;
         split = t.split ∙ sym (append_assoc prefix (a ∷ []) suffix);
         known = t.known;
         low = t.low;
@@ -389,7 +389,7 @@ module _ (table : Table) (hands : ℕ → List Message) (n : ℕ) (setting : Set
           | inl old ↦ t.count_spoken b old
           | inr now ↦
               let number : b.number ≡ a.number = ap (λ (c : Sender). c.number) now in
-              let counted : t.C b.number ≡ count b.number = ap t.C number ∙ t.count_waiting a (inl refl) ∙ ap count (sym number) in
+              let counted : t.sent b.number ≡ count b.number = ap t.sent number ∙ t.count_waiting a (inl refl) ∙ ap count (sym number) in
               counted ∙ (let e : count b.number ≡ count b.number + 0 = omega arith in e) ∙ ap (λ (v : Bool). count b.number + cond v 1 0) (sym (ap p now ∙ not))
         ];
       }

@@ -100,27 +100,27 @@ module _ (table : Table) (hands : ℕ → List Message) (n : ℕ) (setting : Set
 
     first_awake : wake first.number ≤ from first.number
     first_awake =
-        let woken : table.sg + wake first.number ≤ t.G first.number = woken table hands delay wake list t.t t.last t.E t.D t.G t.C t.known first first_in in
-        let g : t.G first.number ≡ table.sg + from first.number = t.first_gap in
+        let woken : table.sg + wake first.number ≤ t.gap_from first.number = woken table hands delay wake list t.t t.last t.heard_all t.due t.gap_from t.sent t.known first first_in in
+        let g : t.gap_from first.number ≡ table.sg + from first.number = t.first_gap in
         omega arith
 
-    opens_goes : StartsNext table hands delay n t.last t.E t.D t.G t.C first (count first.number) (from first.number + first.tg)
-    opens_goes =
+    opens_starts : StartsNext table hands delay n t.last t.heard_all t.due t.gap_from t.sent first (count first.number) (from first.number + first.tg)
+    opens_starts =
         let low : t.lo ≤ from first.number = t.first_low in
         let high : from first.number ≤ t.lo + spread = t.first_high in
         let last_low : t.last ≤ t.lo = t.last_low in
-        let g : t.G first.number ≡ table.sg + from first.number = t.first_gap in
+        let g : t.gap_from first.number ≡ table.sg + from first.number = t.first_gap in
         let k : spread ≤ first.tg = tolerant.least first first_in in
         record {
           behind = omega arith;
-          ready = λ b i. let h : t.E b.number ≤ t.lo + spread = t.ended b i in omega arith;
-          interval = elim (t.due first first_in) [
+          ready = λ b i. let h : t.heard_all b.number ≤ t.lo + spread = t.ended b i in omega arith;
+          interval = elim (t.due_by first first_in) [
             | inl never ↦ omega (arith, first_awake)
             | inr so ↦ omega (arith, ap (λ o. before share o first.number) order_is, before_here share first others first.number refl)
           ];
           terminal = omega arith;
           slow = λ b i other.
-              let low_b : table.sg + t.lo ≤ t.G b.number = t.low b i in
+              let low_b : table.sg + t.lo ≤ t.gap_from b.number = t.low b i in
               let d : delay opens b.number ≤ spread = opens_lag b i in
               let far : first.tg + 2 * spread < b.tg = tolerant.apart first b first_in i (first_least b (one_of b i other)) in
               inl (omega arith);
@@ -144,7 +144,7 @@ module _ (table : Table) (hands : ℕ → List Message) (n : ℕ) (setting : Set
         ])
 
     idle_first : (b : Sender) → In b table.senders → IsOut awake_for (first ∷ []) others b
-        → gap_from_behind table delay wake t.G first opens b.number
+        → gap_from_behind table delay wake t.gap_from first opens b.number
         ≡ max (table.sg + heard_end delay opens b.number + table.sg) (table.sg + wake b.number)
     idle_first b i out =
         elim out [
@@ -152,7 +152,7 @@ module _ (table : Table) (hands : ℕ → List Message) (n : ℕ) (setting : Set
               let is : b ≡ first = elim spoken [ inl now ↦ now | inr nothing ↦ absurd nothing ] in
               let here : b.number ≡ first.number = ap (λ (c : Sender). c.number) is in
               let w : wake b.number ≡ wake first.number = ap wake here in
-              steps.goes_here table.sg table.sg delay wake t.G first.number opens b.number here
+              steps.gap_from_here table.sg table.sg delay wake t.gap_from first.number opens b.number here
               ∙ max_first (table.sg + heard_end delay opens b.number + table.sg) (table.sg + wake b.number) (omega (arith, first_awake))
           | inr not ↦
               let asleep : opens.moment + delay opens b.number < wake b.number =
@@ -160,9 +160,9 @@ module _ (table : Table) (hands : ℕ → List Message) (n : ℕ) (setting : Set
                 | inl less ↦ less
                 | inr more ↦ absurd (true≢false (sym (le-leb (wake b.number) (opens.moment + delay opens b.number) more) ∙ not.1))
               ] in
-              let woken : table.sg + wake b.number ≤ t.G b.number = woken table hands delay wake list t.t t.last t.E t.D t.G t.C t.known b i in
-              steps.goes_other table.sg table.sg delay wake t.G first.number opens b.number (others_apart b not.0)
-              ∙ gap_waiting table.sg table.sg (wake b.number) (t.G b.number) (opens.moment + delay opens b.number)
+              let woken : table.sg + wake b.number ≤ t.gap_from b.number = woken table hands delay wake list t.t t.last t.heard_all t.due t.gap_from t.sent t.known b i in
+              steps.gap_from_other table.sg table.sg delay wake t.gap_from first.number opens b.number (others_apart b not.0)
+              ∙ gap_waiting table.sg table.sg (wake b.number) (t.gap_from b.number) (opens.moment + delay opens b.number)
               (heard_end delay opens b.number) (omega arith)
         ]
 
@@ -182,11 +182,11 @@ module _ (table : Table) (hands : ℕ → List Message) (n : ℕ) (setting : Set
           lo = end_of opens;
           t = from first.number + first.tg + 1;
           last = end_of opens;
-          D = due_behind table t.D first (from first.number + first.tg);
-          G = gap_from_behind table delay wake t.G first opens;
-          C = sent_behind t.C first;
+          due = due_behind table t.due first (from first.number + first.tg);
+          gap_from = gap_from_behind table delay wake t.gap_from first opens;
+          sent = sent_behind t.sent first;
           split = order_is;
-          known = known_step table hands n setting delay wake tolerant.own list t.t t.last t.E t.D t.G t.C first (count first.number) (from first.number + first.tg) first_in t.known opens_goes;
+          known = known_step table hands n setting delay wake tolerant.own list t.t t.last t.heard_all t.due t.gap_from t.sent first (count first.number) (from first.number + first.tg) first_in t.known opens_starts;
           low = λ b i. omega arith;
           high = λ b i. omega (arith, opens_lag b i);
           last_low = omega arith;
@@ -205,17 +205,17 @@ module _ (table : Table) (hands : ℕ → List Message) (n : ℕ) (setting : Set
           waiting = λ b i yes'.
               let hears : wake b.number ≤ opens.moment + delay opens b.number = leb-true (wake b.number) (opens.moment + delay opens b.number) yes' in
               let k : spread ≤ first.tg = tolerant.least first first_in in
-              let reached : t.G b.number ≤ table.sg + (opens.moment + delay opens b.number) = elim (t.high b (others_in b i)) [
+              let reached : t.gap_from b.number ≤ table.sg + (opens.moment + delay opens b.number) = elim (t.high b (others_in b i)) [
                 | inl just ↦ omega arith
                 | inr near ↦ omega arith
               ] in
-              steps.goes_other table.sg table.sg delay wake t.G first.number opens b.number (others_apart b i)
-              ∙ gap_elapsed table.sg table.sg (wake b.number) (t.G b.number) (opens.moment + delay opens b.number)
+              steps.gap_from_other table.sg table.sg delay wake t.gap_from first.number opens b.number (others_apart b i)
+              ∙ gap_elapsed table.sg table.sg (wake b.number) (t.gap_from b.number) (opens.moment + delay opens b.number)
               (heard_end delay opens b.number) reached;
           idle = idle_first;
-          due_waiting = λ b i. elim (t.due b (others_in b i)) [
-            | inl never ↦ inl (omega (arith, put_other t.D first.number (table.sg + (from first.number + first.tg) + table.ti) b.number (others_apart b i)))
-            | inr so ↦ inr (omega (arith, put_other t.D first.number (table.sg + (from first.number + first.tg) + table.ti) b.number (others_apart b i), behind b i))
+          due_waiting = λ b i. elim (t.due_by b (others_in b i)) [
+            | inl never ↦ inl (omega (arith, put_other t.due first.number (table.sg + (from first.number + first.tg) + table.ti) b.number (others_apart b i)))
+            | inr so ↦ inr (omega (arith, put_other t.due first.number (table.sg + (from first.number + first.tg) + table.ti) b.number (others_apart b i), behind b i))
           ];
           due_idle = λ b i out. elim out [
             | inl spoken ↦
@@ -223,19 +223,19 @@ module _ (table : Table) (hands : ℕ → List Message) (n : ℕ) (setting : Set
                 let here : b.number ≡ first.number = ap (λ (c : Sender). c.number) is in
                 let tg : b.tg ≡ first.tg = ap (λ (c : Sender). c.tg) is in
                 let there : before share (turn_order table) b.number ≡ 0 = ap (before share (turn_order table)) here ∙ place in
-                inr (omega (arith, put_here t.D first.number (table.sg + (from first.number + first.tg) + table.ti) b.number here, long))
-            | inr not ↦ elim (t.due b i) [
-              | inl never ↦ inl (omega (arith, put_other t.D first.number (table.sg + (from first.number + first.tg) + table.ti) b.number (others_apart b not.0)))
-              | inr so ↦ inr (omega (arith, put_other t.D first.number (table.sg + (from first.number + first.tg) + table.ti) b.number (others_apart b not.0)))
+                inr (omega (arith, put_here t.due first.number (table.sg + (from first.number + first.tg) + table.ti) b.number here, long))
+            | inr not ↦ elim (t.due_by b i) [
+              | inl never ↦ inl (omega (arith, put_other t.due first.number (table.sg + (from first.number + first.tg) + table.ti) b.number (others_apart b not.0)))
+              | inr so ↦ inr (omega (arith, put_other t.due first.number (table.sg + (from first.number + first.tg) + table.ti) b.number (others_apart b not.0)))
             ]
           ];
-          count_waiting = λ b i. put_other t.C first.number (t.C first.number + 1) b.number (others_apart b i) ∙ t.count_is b (others_in b i);
+          count_waiting = λ b i. put_other t.sent first.number (t.sent first.number + 1) b.number (others_apart b i) ∙ t.count_is b (others_in b i);
           count_spoken = λ b i.
               let is : b ≡ first = elim i [ inl now ↦ now | inr nothing ↦ absurd nothing ] in
               let here : b.number ≡ first.number = ap (λ (c : Sender). c.number) is in
               let passes : awake_for b ≡ true =
               le-leb (wake b.number) (opens.moment + delay opens b.number) (omega (arith, ap wake here)) in
-              put_here t.C first.number (t.C first.number + 1) b.number here ∙ ap (λ v. v + 1) (t.count_is first first_in ∙ ap count (sym here))
+              put_here t.sent first.number (t.sent first.number + 1) b.number here ∙ ap (λ v. v + 1) (t.count_is first first_in ∙ ap count (sym here))
               ∙ ap (λ (v : Bool). count b.number + cond v 1 0) (sym passes);
         }
       where
@@ -301,16 +301,16 @@ module _ (table : Table) (hands : ℕ → List Message) (n : ℕ) (setting : Set
         let low_first : w.lo ≤ heard_to first.number = w.low first first_in in
         let short : first.tg + 2 * spread < table.sg = tolerant.short first first_in in
         let out : (b : Sender) → In b table.senders → IsOut awake_for (turn_order table) [] b = λ b i. inl (in_order b i) in
-        let counted : (b : Sender) → In b table.senders → w.C b.number ≡ count b.number + (if list_any (λ (s : Sender). s.number == b.number) these then 1 else 0) = λ b i.
+        let counted : (b : Sender) → In b table.senders → w.sent b.number ≡ count b.number + (if list_any (λ (s : Sender). s.number == b.number) these then 1 else 0) = λ b i.
         w.count_spoken b (in_order b i) ∙ ap (λ (v : Bool). count b.number + cond v 1 0) (sym (was_in b i)) in
         record {
           lo = w.lo + table.sg;
           t = w.t;
           last = w.last;
-          E = heard_to;
-          D = w.D;
-          G = w.G;
-          C = w.C;
+          heard_all = heard_to;
+          due = w.due;
+          gap_from = w.gap_from;
+          sent = w.sent;
           known = w.known;
           ended = λ b i. omega (arith, w.high b i);
           first_gap = w.idle first first_in (out first first_in)
@@ -331,7 +331,7 @@ module _ (table : Table) (hands : ℕ → List Message) (n : ℕ) (setting : Set
           wide = inr (omega arith);
           laid = w.laid;
           some = w.some;
-          due = λ b i. elim (w.due_idle b i (out b i)) [ inl never ↦ inl never | inr so ↦ inr (omega arith) ];
+          due_by = λ b i. elim (w.due_idle b i (out b i)) [ inl never ↦ inl never | inr so ↦ inr (omega arith) ];
           absent = λ b i not. elim (w.settled b i) [
             | inl none ↦ none
             | inr awake_then ↦ absurd (true≢false (sym (le-leb (wake b.number) _ (omega arith)) ∙ not))

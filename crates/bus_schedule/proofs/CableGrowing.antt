@@ -69,7 +69,7 @@ module _ (Apart : ℕ → Type 0) (delay : Delays) (own : (x : Entry) → delay 
       let x : Entry = sends hands round sender moment in
       let m : Sendable sender (hands sender.number) round (get_or (hands sender.number) round []) = message_left table hands dealt sender round i more in
       let place = in_map (station table hands) table.senders sender i in
-      let goes : StartsNext (quiet_of table) delay (stations table hands) e end due gap count (station table hands sender) (sends hands round sender moment) = record {
+      let starts : StartsNext (quiet_of table) delay (stations table hands) e end due gap count (station table hands sender) (sends hands round sender moment) = record {
         there = place;
         mine = refl;
         some = m.some;
@@ -91,7 +91,7 @@ module _ (Apart : ℕ → Type 0) (delay : Delays) (own : (x : Entry) → delay 
       record {
         t = moment + 1;
         known = known_step (quiet_of table) table.sg delay settled (stations table hands) (timed table hands dealt) own list so.t e end due gap count
-            (station table hands sender) (sends hands round sender moment) so.known goes;
+            (station table hands sender) (sends hands round sender moment) so.known starts;
         ended = λ y j. elim (in_push_cases list (sends hands round sender moment) y j) [
           | inl old ↦ let h : end_of y ≤ e = so.ended y old in omega arith
           | inr same ↦ let h : end_of y ≡ end_of (sends hands round sender moment) = ap end_of same in omega arith

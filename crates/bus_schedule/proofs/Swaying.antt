@@ -23,7 +23,7 @@ use Rattle.bus_medium.specs.Delays.{Delays, HearsWithin, heard, heard_end}
 use Rattle.bus_medium.specs.Wakes.{settled}
 use Rattle.bus_schedule.specs.Slack.{slack_behind, stays, all_stay}
 use Rattle.bus_medium.proofs.CableClocks.{gap_elapsed, gap_waiting}
-use Rattle.bus_medium.proofs.CableSteps.{put_here, put_other, gap_from_behind, goes_here, goes_other}
+use Rattle.bus_medium.proofs.CableSteps.{put_here, put_other, gap_from_behind, gap_from_here, gap_from_other}
 use Rattle.bus_medium.proofs.Hearing.{heard_ended}
 use Rattle.bus_schedule.proofs.Orders.{rises_before, rises_after, same_sender}
 use Rattle.bus_schedule.proofs.HandLemmas.{Sendable}
@@ -81,19 +81,19 @@ at_number_is [] a d i = absurd i
 at_number_is (b ∷ senders) a d (inl same) = rw (eq-eqb a.number b.number (ap (λ (c : Sender). c.number) same)) (ap (λ (c : Sender). c.at) (sym same))
 at_number_is (b ∷ senders) a d (inr i) = rw (ne_eqb a.number b.number (λ e. d.0 a i (sym e))) (at_number_is senders a d.1 i)
 
-goes_near : (q sg : ℕ) (delay : Delays) (gap : ℕ → ℕ) (n : ℕ) (x : Entry) (k : ℕ) → gap_from_behind q sg delay settled gap n x k ≤ q + heard_end delay x k + sg
-goes_near q sg delay gap n x k = elim (cases_eq k n) [
-  | inl here ↦ omega (arith, goes_here q sg delay settled gap n x k here)
+gap_from_near : (q sg : ℕ) (delay : Delays) (gap : ℕ → ℕ) (n : ℕ) (x : Entry) (k : ℕ) → gap_from_behind q sg delay settled gap n x k ≤ q + heard_end delay x k + sg
+gap_from_near q sg delay gap n x k = elim (cases_eq k n) [
+  | inl here ↦ omega (arith, gap_from_here q sg delay settled gap n x k here)
   | inr apart ↦ elim (cases_lt (q + (x.moment + delay x k)) (gap k)) [
-    | inl waits ↦ omega (arith, goes_other q sg delay settled gap n x k apart, gap_waiting q sg 0 (gap k) (x.moment + delay x k) (heard_end delay x k) waits)
-    | inr elapsed ↦ omega (arith, goes_other q sg delay settled gap n x k apart, gap_elapsed q sg 0 (gap k) (x.moment + delay x k) (heard_end delay x k) elapsed)
+    | inl waits ↦ omega (arith, gap_from_other q sg delay settled gap n x k apart, gap_waiting q sg 0 (gap k) (x.moment + delay x k) (heard_end delay x k) waits)
+    | inr elapsed ↦ omega (arith, gap_from_other q sg delay settled gap n x k apart, gap_elapsed q sg 0 (gap k) (x.moment + delay x k) (heard_end delay x k) elapsed)
   ]
 ]
 
-goes_elapsed : (q sg : ℕ) (delay : Delays) (gap : ℕ → ℕ) (n : ℕ) (x : Entry) (k : ℕ) → k ≢ n → gap k ≤ q + (x.moment + delay x k)
+gap_from_elapsed : (q sg : ℕ) (delay : Delays) (gap : ℕ → ℕ) (n : ℕ) (x : Entry) (k : ℕ) → k ≢ n → gap k ≤ q + (x.moment + delay x k)
     → gap_from_behind q sg delay settled gap n x k ≡ q + heard_end delay x k
-goes_elapsed q sg delay gap n x k apart elapsed =
-    goes_other q sg delay settled gap n x k apart ∙ gap_elapsed q sg 0 (gap k) (x.moment + delay x k) (heard_end delay x k) elapsed
+gap_from_elapsed q sg delay gap n x k apart elapsed =
+    gap_from_other q sg delay settled gap n x k apart ∙ gap_elapsed q sg 0 (gap k) (x.moment + delay x k) (heard_end delay x k) elapsed
 
 -- no terminal gap is above the greatest
 fold_low : (senders : List Sender) (gap : ℕ) → gap ≤ fold (λ g (s : Sender). max g s.tg) gap senders
@@ -267,7 +267,7 @@ module _ (Apart : ℕ → Type 0) (delay : Delays) (own : (x : Entry) → delay 
           | inr same ↦ put_here w.count a.number (w.count a.number + 1) c.number (ap (λ (z : Sender). z.number) same) ∙ (let k : w.count a.number ≡ round = w.waiting_count a (inl refl) in omega arith)
         ];
         late = λ c i. let k : delay (sends messages round a (base + a.at)) c.number ≤ reach = d_reach c i in omega arith;
-        near = λ c i. goes_near (quiet_of table) table.sg delay w.gap a.number (sends messages round a (base + a.at)) c.number;
+        near = λ c i. gap_from_near (quiet_of table) table.sg delay w.gap a.number (sends messages round a (base + a.at)) c.number;
         synchronized = λ c i. elim (cases_eq c.number a.number) [
           | inl own ↦
               let is : c ≡ a = tell c i own in
@@ -303,7 +303,7 @@ module _ (Apart : ℕ → Type 0) (delay : Delays) (own : (x : Entry) → delay 
                           (stays_more reach table.sg c.number (Some next.0) (gaps_from table.ti (table.ti + latest_end a) rest ++ w.before) (here ∷ [])
                           (subst (λ v. stays reach table.sg c.number v (gaps_from table.ti (table.ti + latest_end a) rest ++ w.before) ≡ true) next.2 goes));
                     })
-                | inr elapsed ↦ inl (omega (arith, goes_elapsed (quiet_of table) table.sg delay w.gap a.number (sends messages round a (base + a.at)) c.number other elapsed))
+                | inr elapsed ↦ inl (omega (arith, gap_from_elapsed (quiet_of table) table.sg delay w.gap a.number (sends messages round a (base + a.at)) c.number other elapsed))
               ]
         ];
       }

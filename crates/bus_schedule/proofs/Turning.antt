@@ -21,7 +21,7 @@ use Rattle.bus_medium.specs.inside.Lazy.{HaveEnded}
 use Rattle.bus_medium.specs.Delays.{at_once, heard, heard_end}
 use Rattle.bus_medium.specs.Wakes.{settled}
 use Rattle.bus_medium.proofs.CableClocks.{gap_elapsed, gap_waiting, max_first}
-use Rattle.bus_medium.proofs.CableSteps.{put_here, put_other, due_behind, gap_from_behind, sent_behind, goes_here, goes_other}
+use Rattle.bus_medium.proofs.CableSteps.{put_here, put_other, due_behind, gap_from_behind, sent_behind, gap_from_here, gap_from_other}
 use Rattle.bus_medium.proofs.Hearing.{heard_ended}
 use Rattle.bus_schedule.specs.Closed.{sends, turns, turns_end, origin}
 use Rattle.bus_schedule.specs.Live.{live, live_rounds, AreLong}
@@ -199,7 +199,7 @@ module _ (table : Table) (hands : ℕ → List Message)
         low = omega arith;
         waiting_gap = λ c i.
             let g : t.gap c.number ≡ table.sg + from = t.waiting_gap c (inr i) in
-            goes_other (quiet_of table) table.sg at_once settled t.gap a.number (sends hands round a (from + a.tg)) c.number (apart_after c i)
+            gap_from_other (quiet_of table) table.sg at_once settled t.gap a.number (sends hands round a (from + a.tg)) c.number (apart_after c i)
             ∙ gap_elapsed (quiet_of table) table.sg 0 (t.gap c.number) (from + a.tg + 0) (end_of (sends hands round a (from + a.tg)) + 0) (omega arith) ∙ omega arith;
         waiting_due = λ c i.
             let g : t.due c.number ≤ table.sg + from + ahead shortest (a ∷ rest) c.number = t.waiting_due c (inr i) in
@@ -208,10 +208,10 @@ module _ (table : Table) (hands : ℕ → List Message)
         done_gap = λ c i. elim (in_push_cases done a c i) [
           | inl old ↦
               let g : t.gap c.number ≡ table.sg + from + table.sg = t.done_gap c old in
-              goes_other (quiet_of table) table.sg at_once settled t.gap a.number (sends hands round a (from + a.tg)) c.number (apart_before c old)
+              gap_from_other (quiet_of table) table.sg at_once settled t.gap a.number (sends hands round a (from + a.tg)) c.number (apart_before c old)
               ∙ gap_waiting (quiet_of table) table.sg 0 (t.gap c.number) (from + a.tg + 0) (end_of (sends hands round a (from + a.tg)) + 0) (omega arith)
               ∙ sym (max_first (quiet_of table + (end_of (sends hands round a (from + a.tg)) + 0) + table.sg) (table.sg + 0) (omega arith)) ∙ omega arith
-          | inr here ↦ goes_here (quiet_of table) table.sg at_once settled t.gap a.number (sends hands round a (from + a.tg)) c.number (ap (λ (z : Sender). z.number) here) ∙ omega arith
+          | inr here ↦ gap_from_here (quiet_of table) table.sg at_once settled t.gap a.number (sends hands round a (from + a.tg)) c.number (ap (λ (z : Sender). z.number) here) ∙ omega arith
         ];
         done_due = λ c i next. elim (in_push_cases done a c i) [
           | inl old ↦

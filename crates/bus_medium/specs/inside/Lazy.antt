@@ -268,4 +268,4 @@ pub record AreTold {C : Type 0} (core : Ghosts C) (quiet now : ℕ) (clocks : Li
 
 -- The numbers of a sender on a cable don't let it start up to moment m.
 abbrev pub IsLate : ℕ → Station → ℕ → ℕ → ℕ → ℕ → Type 0
-IsLate quiet s D G C m = (quiet + m < G + s.timing.tg) ⊎ ((quiet + m < D) ⊎ (length s.hand ≤ C))
+IsLate quiet s due gap_from sent m = (quiet + m < gap_from + s.timing.tg) ⊎ ((quiet + m < due) ⊎ (length s.hand ≤ sent))
