@@ -6,3 +6,4 @@ pub mod Following
 pub mod Lasting
 pub mod Runs
 pub mod Lazy
+pub mod Starting

@@ -3,9 +3,8 @@ ghost use Rattle.std.specs.Prelude.{◌≡◌, ◌+◌, ◌<◌, ◌≤◌, max,
 ghost use Rattle.bus_strings.specs.Limits.{horizon_limit, most_terminal};
 ghost use Rattle.bus_strings.specs.Transmissions.{end_of};
 ghost use Rattle.bus_medium.specs.Buses.{number_of};
-ghost use Rattle.bus_medium.specs.inside.Lazy.{Sits, RunsLazily, BegunLazily, DecidedLazily, MovesOnce, MovedBySent, EndsAt};
-ghost use Rattle.bus_medium.specs.inside.Lazy.{clock_of, clocks_of, IsAlone, AreNoShorter, AreKept, OthersKept};
-ghost use Rattle.bus_medium.specs.Orders.{IsSendOrder};
+ghost use Rattle.bus_medium.specs.inside.Lazy.{Sits, BegunLazily, MovesOnce, clock_of, clocks_of, IsAlone, OthersKept};
+ghost use Rattle.bus_medium.specs.inside.Starting.{MayBegin, BeginsAt};
 
 use crate::deciding::{SendOrder, decide_one};
 use crate::note::note;
@@ -66,19 +65,12 @@ fn begin_all<C: JumpCore>(
     all_timers: &mut [Timers],
     list: &mut Vec<Transmission>,
 ) -> Result<u64, AllocError>
-    requires moment { moment < horizon_limit }
-    requires send_order { IsSendOrder (map number_of seats.old) send_order.now.places.items }
-    requires long { length all_timers.old ≡ length seats.old }
-    requires kept { AreKept idle.now (send_order.now.quiet + moment) all_timers.old }
-    requires at { RunsLazily ⟦<C as Core>⟧ send_order.now.quiet seats.old (clocks_of idle.now.ended all_timers.old) list.old.items moment }
+    requires { MayBegin ⟦<C as Core>⟧ send_order.now.quiet moment send_order.now.places.items idle.now seats.old all_timers.old
+        list.old.items }
     ensures numbers { map number_of seats.new ≡ map number_of seats.old }
     ensures long { length all_timers.new ≡ length all_timers.old }
-    ensures least { OnOk result (AreNoShorter idle.now.least (clocks_of idle.now.ended all_timers.new)) }
-    ensures decided { OnOk result (DecidedLazily ⟦<C as Core>⟧ send_order.now.quiet moment seats.old
-        (clocks_of idle.now.ended all_timers.old)
-        seats.new (clocks_of idle.now.ended all_timers.new) list.old.items list.new.items) }
-    ensures moved { OnOk result (MovedBySent ⟦<C as Core>⟧ seats.old seats.new) }
-    ensures end { IfOk result (λ end. EndsAt moment list.old.items list.new.items end) }
+    ensures begun { IfOk result (λ end. BeginsAt ⟦<C as Core>⟧ send_order.now.quiet moment idle.now seats.old seats.new
+        all_timers.old all_timers.new list.old.items list.new.items end) }
 {
     let mut end = moment;
     for place in &send_order.places {
@@ -107,21 +99,14 @@ fn begin_alone<C: JumpCore>(
     all_timers: &mut [Timers],
     list: &mut Vec<Transmission>,
 ) -> Result<u64, AllocError>
-    requires moment { moment < horizon_limit }
-    requires send_order { IsSendOrder (map number_of seats.old) send_order.now.places.items }
-    requires long { length all_timers.old ≡ length seats.old }
-    requires kept { AreKept idle.now (send_order.now.quiet + moment) all_timers.old }
+    requires bus { MayBegin ⟦<C as Core>⟧ send_order.now.quiet moment send_order.now.places.items idle.now seats.old all_timers.old
+        list.old.items }
     requires alone { IsAlone (send_order.now.quiet + moment) (clocks_of idle.now.ended all_timers.old) place }
-    requires at { RunsLazily ⟦<C as Core>⟧ send_order.now.quiet seats.old (clocks_of idle.now.ended all_timers.old) list.old.items moment }
     ensures numbers { map number_of seats.new ≡ map number_of seats.old }
     ensures long { length all_timers.new ≡ length all_timers.old }
-    ensures least { OnOk result (AreNoShorter idle.now.least (clocks_of idle.now.ended all_timers.new)) }
     ensures others { OnOk result (OthersKept (Some place) all_timers.new) }
-    ensures decided { OnOk result (DecidedLazily ⟦<C as Core>⟧ send_order.now.quiet moment seats.old
-        (clocks_of idle.now.ended all_timers.old)
-        seats.new (clocks_of idle.now.ended all_timers.new) list.old.items list.new.items) }
-    ensures moved { OnOk result (MovedBySent ⟦<C as Core>⟧ seats.old seats.new) }
-    ensures end { IfOk result (λ end. EndsAt moment list.old.items list.new.items end) }
+    ensures begun { IfOk result (λ end. BeginsAt ⟦<C as Core>⟧ send_order.now.quiet moment idle.now seats.old seats.new
+        all_timers.old all_timers.new list.old.items list.new.items end) }
 {
     let begun = begin(
         alloc,
@@ -147,21 +132,14 @@ pub fn begin_ready<C: JumpCore>(
     all_timers: &mut [Timers],
     list: &mut Vec<Transmission>,
 ) -> Result<u64, AllocError>
-    requires moment { moment < horizon_limit }
-    requires send_order { IsSendOrder (map number_of seats.old) send_order.now.places.items }
-    requires long { length all_timers.old ≡ length seats.old }
-    requires kept { AreKept idle.now (send_order.now.quiet + moment) all_timers.old }
+    requires bus { MayBegin ⟦<C as Core>⟧ send_order.now.quiet moment send_order.now.places.items idle.now seats.old all_timers.old
+        list.old.items }
     requires alone { IfSome alone (IsAlone (send_order.now.quiet + moment) (clocks_of idle.now.ended all_timers.old)) }
-    requires at { RunsLazily ⟦<C as Core>⟧ send_order.now.quiet seats.old (clocks_of idle.now.ended all_timers.old) list.old.items moment }
     ensures numbers { map number_of seats.new ≡ map number_of seats.old }
     ensures long { length all_timers.new ≡ length all_timers.old }
-    ensures least { OnOk result (AreNoShorter idle.now.least (clocks_of idle.now.ended all_timers.new)) }
     ensures others { OnOk result (OthersKept alone all_timers.new) }
-    ensures decided { OnOk result (DecidedLazily ⟦<C as Core>⟧ send_order.now.quiet moment seats.old
-        (clocks_of idle.now.ended all_timers.old)
-        seats.new (clocks_of idle.now.ended all_timers.new) list.old.items list.new.items) }
-    ensures moved { OnOk result (MovedBySent ⟦<C as Core>⟧ seats.old seats.new) }
-    ensures end { IfOk result (λ end. EndsAt moment list.old.items list.new.items end) }
+    ensures begun { IfOk result (λ end. BeginsAt ⟦<C as Core>⟧ send_order.now.quiet moment idle.now seats.old seats.new
+        all_timers.old all_timers.new list.old.items list.new.items end) }
 {
     match alone {
         Some(place) => begin_alone(

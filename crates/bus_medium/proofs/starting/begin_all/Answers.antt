@@ -99,8 +99,8 @@ loop-place-preserved g c =
           (starts_now (lazy g.C.Core q now) t (lazy_seat now x k) (lazy_seat now y z) c.in_ok-begun.begun c.in_ok-begun.ensures.begun) c.in_ok-note.ensures;
     }
 
-pub returns-clause-decided : goal.returns-clause-decided
-returns-clause-decided g c =
+pub returns-clause-begun : goal.returns-clause-begun
+returns-clause-begun g c =
     let so = c.loop-place.invariant in
     let q = c.args.send_order.now.quiet in
     let now = c.args.send_order.now.quiet + c.args.moment in
@@ -111,11 +111,16 @@ returns-clause-decided g c =
     (subst (IsByNumber (map number_of c.args.seats.now)) (sym c.deref-place-items.ensures.value) c.requires.send_order.order) in
     let all = all_places (lazy g.C.Core q now) q c.args.moment xs ys c.loop-place.list.items places c.loop-place.place-index by so.decided c.loop-place-test.false in
     record {
-      stations = so.decided.so.stations;
-      grown = so.grown;
-      lawful = subst (λ ss. IsLawfulTo q ss (c.args.moment + 1) 0 c.loop-place.list.items) (sym so.decided.so.stations) all.0;
-      follow = all.1;
-      room = so.decided.so.room (2 ^ 62 - c.args.moment) c.requires.at.room;
+      least = so.least;
+      decided = record {
+        stations = so.decided.so.stations;
+        grown = so.grown;
+        lawful = subst (λ ss. IsLawfulTo q ss (c.args.moment + 1) 0 c.loop-place.list.items) (sym so.decided.so.stations) all.0;
+        follow = all.1;
+        room = so.decided.so.room (2 ^ 62 - c.args.moment) c.requires.at.room;
+      };
+      moved = so.moved;
+      ended = so.ends;
     }
 
 pub returns-in_err-begun-clause-numbers : goal.returns-in_err-begun-clause-numbers

@@ -19,8 +19,8 @@ pub begin-requires-clause-number : goal.begin-requires-clause-number
 begin-requires-clause-number g c =
     let p = c.args.place in
     let seats = c.args.seats.now in
-    let within : p < length seats = omega (arith, alone_within c.args.idle.now.ended (c.args.send_order.now.quiet + c.args.moment) c.args.all_timers.now p c.requires.alone, c.requires.long) in
-    number_in seats seats p (get_or seats p c.index-seats-place.result) c.requires.send_order.ranges refl refl (slice_get-get_or seats p c.index-seats-place.result within)
+    let within : p < length seats = omega (arith, alone_within c.args.idle.now.ended (c.args.send_order.now.quiet + c.args.moment) c.args.all_timers.now p c.requires.alone, c.requires.bus.long) in
+    number_in seats seats p (get_or seats p c.index-seats-place.result) c.requires.bus.send_order.ranges refl refl (slice_get-get_or seats p c.index-seats-place.result within)
 
 pub begin-requires-clause-sits : goal.begin-requires-clause-sits
 begin-requires-clause-sits g c =
@@ -32,41 +32,32 @@ begin-requires-clause-sits g c =
     let ws = c.args.all_timers.now in
     let none : Timers = record { sg = 0; tg = 0; told = 0; due = 0; behind = 0; over = 0 } in
     let inside : p < length ws = alone_within e (q + t) ws p c.requires.alone in
-    let within : p < length seats = omega (arith, c.requires.long) in
+    let within : p < length seats = omega (arith, c.requires.bus.long) in
     let x = get_or seats p c.index-seats-place.result in
     let w = get_or ws p none in
     follows_sits g.C.Core q t t x (clock_of e w) c.args.list.now.items refl
-    (c.requires.at.follow p (lazy_seat (q + t) x (clock_of e w)) (lazy_at (q + t) seats (clocks_of e ws) p x (clock_of e w) (slice_get-get_or seats p c.index-seats-place.result within) (clock_at e ws p w (slice_get-get_or ws p none inside))))
+    (c.requires.bus.at.follow p (lazy_seat (q + t) x (clock_of e w)) (lazy_at (q + t) seats (clocks_of e ws) p x (clock_of e w) (slice_get-get_or seats p c.index-seats-place.result within) (clock_at e ws p w (slice_get-get_or ws p none inside))))
 
 pub returns-in_err-begun-clause-numbers : goal.returns-in_err-begun-clause-numbers
 returns-in_err-begun-clause-numbers g c =
     let p = c.args.place in
     let seats = c.args.seats.now in
-    let within : p < length seats = omega (arith, alone_within c.args.idle.now.ended (c.args.send_order.now.quiet + c.args.moment) c.args.all_timers.now p c.requires.alone, c.requires.long) in
+    let within : p < length seats = omega (arith, alone_within c.args.idle.now.ended (c.args.send_order.now.quiet + c.args.moment) c.args.all_timers.now p c.requires.alone, c.requires.bus.long) in
     map_set_same number_of seats p (get_or seats p c.index-seats-place.result) c.begin.new.seat (slice_get-get_or seats p c.index-seats-place.result within) c.in_err-begun.ensures.number
 
 pub returns-in_err-note-clause-numbers : goal.returns-in_err-note-clause-numbers
 returns-in_err-note-clause-numbers g c =
     let p = c.args.place in
     let seats = c.args.seats.now in
-    let within : p < length seats = omega (arith, alone_within c.args.idle.now.ended (c.args.send_order.now.quiet + c.args.moment) c.args.all_timers.now p c.requires.alone, c.requires.long) in
+    let within : p < length seats = omega (arith, alone_within c.args.idle.now.ended (c.args.send_order.now.quiet + c.args.moment) c.args.all_timers.now p c.requires.alone, c.requires.bus.long) in
     map_set_same number_of seats p (get_or seats p c.index-seats-place.result) c.begin.new.seat (slice_get-get_or seats p c.index-seats-place.result within) c.in_ok-begun.ensures.number
 
 pub returns-clause-numbers : goal.returns-clause-numbers
 returns-clause-numbers g c =
     let p = c.args.place in
     let seats = c.args.seats.now in
-    let within : p < length seats = omega (arith, alone_within c.args.idle.now.ended (c.args.send_order.now.quiet + c.args.moment) c.args.all_timers.now p c.requires.alone, c.requires.long) in
+    let within : p < length seats = omega (arith, alone_within c.args.idle.now.ended (c.args.send_order.now.quiet + c.args.moment) c.args.all_timers.now p c.requires.alone, c.requires.bus.long) in
     map_set_same number_of seats p (get_or seats p c.index-seats-place.result) c.begin.new.seat (slice_get-get_or seats p c.index-seats-place.result within) c.in_ok-begun.ensures.number
-
-pub returns-clause-least : goal.returns-clause-least
-returns-clause-least g c =
-    let e = c.args.idle.now.ended in
-    let p = c.args.place in
-    let ws = c.args.all_timers.now in
-    let none : Timers = record { sg = 0; tg = 0; told = 0; due = 0; behind = 0; over = 0 } in
-    let inside : p < length ws = alone_within e (c.args.send_order.now.quiet + c.args.moment) ws p c.requires.alone in
-    shorter_set e c.args.idle.now.least ws p (get_or ws p none) c.begin.new.timers c.requires.kept.least (slice_get-get_or ws p none inside) c.in_ok-begun.ensures.sg
 
 pub returns-clause-others : goal.returns-clause-others
 returns-clause-others g c =
@@ -76,11 +67,11 @@ returns-clause-others g c =
     let v = c.begin.new.timers in
     let inside : p < length ws = alone_within e (c.args.send_order.now.quiet + c.args.moment) ws p c.requires.alone in (
       omega (arith, length-set ws p v),
-      λ j w apart at. c.requires.kept.each j w (sym (get_set_other ws p j v (λ h. apart (sym h))) ∙ at),
+      λ j w apart at. c.requires.bus.kept.each j w (sym (get_set_other ws p j v (λ h. apart (sym h))) ∙ at),
     )
 
-pub returns-clause-decided : goal.returns-clause-decided
-returns-clause-decided g c =
+pub returns-clause-begun : goal.returns-clause-begun
+returns-clause-begun g c =
     let q = c.args.send_order.now.quiet in
     let t = c.args.moment in
     let now = c.args.send_order.now.quiet + c.args.moment in
@@ -90,7 +81,7 @@ returns-clause-decided g c =
     let ws = c.args.all_timers.now in
     let none : Timers = record { sg = 0; tg = 0; told = 0; due = 0; behind = 0; over = 0 } in
     let inside : p < length ws = alone_within e (q + t) ws p c.requires.alone in
-    let within : p < length seats = omega (arith, c.requires.long) in
+    let within : p < length seats = omega (arith, c.requires.bus.long) in
     let x = get_or seats p c.index-seats-place.result in
     let w = get_or ws p none in
     let k = clock_of e w in
@@ -102,41 +93,24 @@ returns-clause-decided g c =
     let m = c.note.new.list.items in
     let xs = lazy_seats now seats (clocks_of e ws) in
     let ys = lazy_seats now (set seats p y) (clocks_of e (set ws p v)) in
-    let long = clocks_long e (length seats) ws c.requires.long in
-    let by = subst (λ (ns : List ℕ). IsByNumber ns places) (sym (lazy_numbers now seats (clocks_of e ws) long)) c.requires.send_order.order in
+    let long = clocks_long e (length seats) ws c.requires.bus.long in
+    let by = subst (λ (ns : List ℕ). IsByNumber ns places) (sym (lazy_numbers now seats (clocks_of e ws) long)) c.requires.bus.send_order.order in
     let at = lazy_at now seats (clocks_of e ws) p x k (slice_get-get_or seats p c.index-seats-place.result within) (clock_at e ws p w (slice_get-get_or ws p none inside)) in
     let d : DecidedPlaces (lazy g.C.Core q now) q t xs ys m places (length places) =
     subst (λ us. DecidedPlaces (lazy g.C.Core q now) q t xs us m places (length places)) (sym (timers_set now e seats ws p y v))
-    (alone_places (lazy g.C.Core q now) q t xs l m places p (lazy_seat now x k) (lazy_seat now y z) by c.requires.at.lawful c.requires.at.follow
+    (alone_places (lazy g.C.Core q now) q t xs l m places p (lazy_seat now x k) (lazy_seat now y z) by c.requires.bus.at.lawful c.requires.bus.at.follow
     (others_idle g.C.Core q t seats (clocks_of e ws) p long c.requires.alone) at c.in_ok-begun.begun c.in_ok-begun.ensures.begun c.in_ok-note.ensures) in
     let all = all_places (lazy g.C.Core q now) q t xs ys m places (length places) by d (let h : length places ≤ length places = omega arith in h) in
     record {
-      stations = d.so.stations;
-      grown = grown_one (lazy g.C.Core q now) t l l m (lazy_seat now x k) (lazy_seat now y z) c.in_ok-begun.begun (grown_none t l) c.in_ok-begun.ensures.begun c.in_ok-note.ensures;
-      lawful = subst (λ ss. IsLawfulTo q ss (t + 1) 0 m) (sym d.so.stations) all.0;
-      follow = all.1;
-      room = d.so.room (2 ^ 62 - t) c.requires.at.room;
+      least = shorter_set e c.args.idle.now.least ws p w v c.requires.bus.kept.least (slice_get-get_or ws p none inside) c.in_ok-begun.ensures.sg;
+      decided = record {
+        stations = d.so.stations;
+        grown = grown_one (lazy g.C.Core q now) t l l m (lazy_seat now x k) (lazy_seat now y z) c.in_ok-begun.begun (grown_none t l) c.in_ok-begun.ensures.begun c.in_ok-note.ensures;
+        lawful = subst (λ ss. IsLawfulTo q ss (t + 1) 0 m) (sym d.so.stations) all.0;
+        follow = all.1;
+        room = d.so.room (2 ^ 62 - t) c.requires.bus.at.room;
+      };
+      moved = moved_set g.C.Core seats seats p x y (moved_none g.C.Core seats) (slice_get-get_or seats p c.index-seats-place.result within) c.in_ok-begun.ensures.moves;
+      ended = ends_more t l l m t c.later_end-end.result c.in_ok-begun.begun (ends_none t l) c.later_end-end.ensures
+          (starts_now (lazy g.C.Core q now) t (lazy_seat now x k) (lazy_seat now y z) c.in_ok-begun.begun c.in_ok-begun.ensures.begun) c.in_ok-note.ensures;
     }
-
-pub returns-clause-moved : goal.returns-clause-moved
-returns-clause-moved g c =
-    let p = c.args.place in
-    let seats = c.args.seats.now in
-    let within : p < length seats = omega (arith, alone_within c.args.idle.now.ended (c.args.send_order.now.quiet + c.args.moment) c.args.all_timers.now p c.requires.alone, c.requires.long) in
-    moved_set g.C.Core seats seats p (get_or seats p c.index-seats-place.result) c.begin.new.seat (moved_none g.C.Core seats) (slice_get-get_or seats p c.index-seats-place.result within) c.in_ok-begun.ensures.moves
-
-pub returns-clause-end : goal.returns-clause-end
-returns-clause-end g c =
-    let q = c.args.send_order.now.quiet in
-    let t = c.args.moment in
-    let now = c.args.send_order.now.quiet + c.args.moment in
-    let e = c.args.idle.now.ended in
-    let p = c.args.place in
-    let none : Timers = record { sg = 0; tg = 0; told = 0; due = 0; behind = 0; over = 0 } in
-    let x = get_or c.args.seats.now p c.index-seats-place.result in
-    let k = clock_of e (get_or c.args.all_timers.now p none) in
-    let y = c.begin.new.seat in
-    let z = clock_of e c.begin.new.timers in
-    let l = c.args.list.now.items in
-    ends_more t l l c.note.new.list.items t c.later_end-end.result c.in_ok-begun.begun (ends_none t l) c.later_end-end.ensures
-    (starts_now (lazy g.C.Core q now) t (lazy_seat now x k) (lazy_seat now y z) c.in_ok-begun.begun c.in_ok-begun.ensures.begun) c.in_ok-note.ensures
