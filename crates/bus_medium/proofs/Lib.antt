@@ -21,6 +21,7 @@ pub mod Jumping
 pub mod Stretching
 pub mod Reaching
 pub mod Running
+pub mod Observing
 pub mod AscendingLaws
 pub mod PastLaws
 pub mod StationLaws

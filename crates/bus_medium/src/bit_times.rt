@@ -1,15 +1,13 @@
 //! The bus bit time for bit time: at each moment all decide, and then all hear the bit time that is over.
-ghost use Rattle.std.specs.Prelude.{◌≡◌, ℕ, ◌+◌, ◌<◌, ◌≤◌, [], true, List, map, IfOk, OnOk};
+ghost use Rattle.std.specs.Prelude.{◌≡◌, ◌+◌, ◌<◌, ◌≤◌, [], true, map, IfOk, OnOk};
 ghost use Rattle.std.specs.List.{list_any};
 ghost use Rattle.bus_strings.specs.Limits.{horizon_limit};
-ghost use Rattle.bus_strings.specs.Messages.{Entry};
-ghost use Rattle.bus_medium.specs.Lawful.{IsLawful};
-ghost use Rattle.bus_medium.specs.Buses.{station_of, number_of, StandsAt, observe_limit};
+ghost use Rattle.bus_medium.specs.Buses.{number_of, StandsAt, observe_limit};
 ghost use Rattle.bus_medium.specs.inside.Following.{AllHaveRoom};
 ghost use Rattle.bus_medium.specs.Jumps.{Each};
 ghost use Rattle.bus_medium.specs.inside.Lasting.{PassedMany};
 ghost use Rattle.bus_medium.specs.Orders.{IsSendOrder};
-ghost use Rattle.bus_medium.specs.inside.Runs.{RunsTo, Reached, seat_sounds};
+ghost use Rattle.bus_medium.specs.inside.Runs.{RunsTo, Reached, IsTheList, seat_sounds};
 
 use crate::deciding::{SendOrder, decide_all};
 use crate::seat::Seat;
@@ -75,12 +73,7 @@ pub fn observe_all<C: Core>(
     requires send_order { IsSendOrder (map number_of seats.old) send_order.now.places.items }
     requires stands { StandsAt ⟦<C as Core>⟧ (record { quiet = send_order.now.quiet; seats = seats.old }) [] 0 }
     ensures numbers { map number_of seats.new ≡ map number_of seats.old }
-    ensures lawful { IfOk result (λ list. IsLawful send_order.now.quiet (map station_of seats.old) horizon list.items) }
-    ensures only { IfOk result (λ list. (other : List Entry) → IsLawful send_order.now.quiet (map station_of seats.old) horizon other
-        → other ≡ list.items) }
-    ensures stands { IfOk result (λ list. StandsAt ⟦<C as Core>⟧ (record { quiet = send_order.now.quiet; seats = seats.new })
-        list.items horizon) }
-    ensures keeps { OnOk result (map station_of seats.new ≡ map station_of seats.old) }
+    ensures list { IfOk result (λ list. IsTheList ⟦<C as Core>⟧ send_order.now.quiet horizon seats.old seats.new list.items) }
 {
     let mut list = Vec::new(alloc);
     for moment in 0..horizon {

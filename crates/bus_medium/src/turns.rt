@@ -1,17 +1,16 @@
 //! The bus by jumps, from start to start: nobody starts while the bus is busy, and what begins at one moment keeps it
 //! busy to the end of the longest of it.
-ghost use Rattle.std.specs.Prelude.{◌≡◌, ℕ, ◌+◌, ◌*◌, ◌^◌, ◌<◌, ◌≤◌, [], List, false, length, map, min, IfOk, OnOk};
+ghost use Rattle.std.specs.Prelude.{◌≡◌, ℕ, ◌+◌, ◌*◌, ◌<◌, ◌≤◌, [], false, length, map, min, IfOk, OnOk};
 ghost use Rattle.bus_strings.specs.Limits.{horizon_limit};
-ghost use Rattle.bus_strings.specs.Messages.{Entry};
 ghost use Rattle.bus_strings.specs.Transmissions.{carrier};
 ghost use Rattle.bus_medium.specs.BusyLaws.{IsBusy};
-ghost use Rattle.bus_medium.specs.Lawful.{IsLawful};
 ghost use Rattle.bus_medium.specs.Buses.{station_of, number_of, StandsAt};
 ghost use Rattle.bus_medium.specs.Edges.{strings_sent};
 ghost use Rattle.bus_medium.specs.Jumps.{Moved};
 ghost use Rattle.bus_medium.specs.Orders.{IsSendOrder};
+ghost use Rattle.bus_medium.specs.inside.Runs.{IsTheList};
 ghost use Rattle.bus_medium.specs.inside.Lazy.{Sits, AllSit, RestsAt, AreTold, IsTold, AreSettled};
-ghost use Rattle.bus_medium.specs.inside.Lazy.{AreAfter, MovedBySent, clock_of, clocks_of, EachKept, AreKept, AreNoShorter};
+ghost use Rattle.bus_medium.specs.inside.Lazy.{MovedBySent, clock_of, clocks_of, EachKept, AreKept, AreNoShorter};
 
 use crate::deciding::SendOrder;
 use crate::ending::carrier_end;
@@ -155,12 +154,7 @@ fn run_all<C: JumpCore>(
     requires send_order { IsSendOrder (map number_of seats.old) send_order.now.places.items }
     requires stands { StandsAt ⟦<C as Core>⟧ (record { quiet = send_order.now.quiet; seats = seats.old }) [] 0 }
     ensures numbers { map number_of seats.new ≡ map number_of seats.old }
-    ensures lawful { IfOk result (λ list. IsLawful send_order.now.quiet (map station_of seats.old) horizon list.items) }
-    ensures only { IfOk result (λ list. (other : List Entry) → IsLawful send_order.now.quiet (map station_of seats.old) horizon other
-        → other ≡ list.items) }
-    ensures stands { IfOk result (λ list. StandsAt ⟦<C as Core>⟧ (record { quiet = send_order.now.quiet; seats = seats.new })
-        list.items horizon) }
-    ensures keeps { OnOk result (map station_of seats.new ≡ map station_of seats.old) }
+    ensures list { IfOk result (λ list. IsTheList ⟦<C as Core>⟧ send_order.now.quiet horizon seats.old seats.new list.items) }
     ensures moved { IfOk result (λ list. Moved ⟦<C as Core>⟧ (2 * strings_sent list.items + 1) seats.old seats.new) }
 {
     let mut list = Vec::new(alloc);
@@ -188,12 +182,7 @@ pub fn jump_all<C: JumpCore>(
     requires send_order { IsSendOrder (map number_of seats.old) send_order.now.places.items }
     requires stands { StandsAt ⟦<C as Core>⟧ (record { quiet = send_order.now.quiet; seats = seats.old }) [] 0 }
     ensures numbers { map number_of seats.new ≡ map number_of seats.old }
-    ensures lawful { IfOk result (λ list. IsLawful send_order.now.quiet (map station_of seats.old) horizon list.items) }
-    ensures only { IfOk result (λ list. (other : List Entry) → IsLawful send_order.now.quiet (map station_of seats.old) horizon other
-        → other ≡ list.items) }
-    ensures stands { IfOk result (λ list. StandsAt ⟦<C as Core>⟧ (record { quiet = send_order.now.quiet; seats = seats.new })
-        list.items horizon) }
-    ensures keeps { OnOk result (map station_of seats.new ≡ map station_of seats.old) }
+    ensures list { IfOk result (λ list. IsTheList ⟦<C as Core>⟧ send_order.now.quiet horizon seats.old seats.new list.items) }
     ensures moved { IfOk result (λ list. Moved ⟦<C as Core>⟧ (2 * strings_sent list.items + 1) seats.old seats.new) }
 {
     let mut all_timers = all_settled_timers(alloc, send_order.quiet, seats)?;

@@ -3,8 +3,8 @@ use Rattle.std.specs.Prelude.{◌≡◌, ℕ, ◌+◌, ◌-◌, ◌^◌, ◌<◌
 use Rattle.bus_timers.specs.declared.cores.Core.{Ghosts}
 use Rattle.bus_strings.specs.Members.{In}
 use Rattle.bus_strings.specs.Messages.{Entry}
-use Rattle.bus_medium.specs.Lawful.{IsLawfulTo}
-use Rattle.bus_medium.specs.Buses.{Seat, station_of}
+use Rattle.bus_medium.specs.Lawful.{IsLawful, IsLawfulTo}
+use Rattle.bus_medium.specs.Buses.{Seat, station_of, StandsAt}
 use Rattle.bus_medium.specs.inside.Following.{AllFollow, AllHaveRoom}
 use Rattle.bus_medium.specs.Terminals.{sounds}
 
@@ -33,6 +33,13 @@ pub record Decided {C : Type 0} (core : Ghosts C) (quiet t : ℕ) (xs ys : List 
 pub record Reached {C : Type 0} (core : Ghosts C) (quiet t : ℕ) (xs ys : List (Seat C)) (list : List Entry) : Type 0 where
   pub stations : map station_of ys ≡ map station_of xs
   pub to : RunsTo core quiet ys list t
+
+-- The list is the lawful one for the senders xs up to the horizon, and the only one. They have become ys, which stand at the horizon.
+pub record IsTheList {C : Type 0} (core : Ghosts C) (quiet horizon : ℕ) (xs ys : List (Seat C)) (list : List Entry) : Type 0 where
+  pub lawful : IsLawful quiet (map station_of xs) horizon list
+  pub only : (other : List Entry) → IsLawful quiet (map station_of xs) horizon other → other ≡ list
+  pub stands : StandsAt core (record { quiet = quiet; seats = ys }) list horizon
+  pub keeps : map station_of ys ≡ map station_of xs
 
 -- Whether a sender has a pulse on the present bit time.
 abbrev pub seat_sounds : {C : Type 0} → Seat C → Bool

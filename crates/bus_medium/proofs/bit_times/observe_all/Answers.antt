@@ -22,20 +22,19 @@ loop-moment-preserved g c =
     reached_more g.C.Core c.args.send_order.now.quiet c.loop-moment.moment (c.loop-moment.moment + 1) c.args.seats.now c.loop-moment.seats c.bit_time.new.seats
     c.loop-moment.list.items c.bit_time.new.list.items c.loop-moment.invariant c.in_ok-bit_time.ensures.reached
 
-pub returns-clause-lawful : goal.returns-clause-lawful
-returns-clause-lawful g c =
-    reached_lawful g.C.Core c.args.send_order.now.quiet c.loop-moment.moment c.args.horizon c.args.seats.now c.loop-moment.seats c.loop-moment.list.items
-    c.loop-moment.invariant (omega arith)
-
-pub returns-clause-only : goal.returns-clause-only
-returns-clause-only g c =
-    reached_only g.C.Core c.args.send_order.now.quiet c.loop-moment.moment c.args.horizon c.args.seats.now c.loop-moment.seats c.loop-moment.list.items
-    (own_numbers c.args.seats.now c.args.send_order.now.places.items c.requires.send_order.order) c.loop-moment.invariant (omega arith)
-
-pub returns-clause-stands : goal.returns-clause-stands
-returns-clause-stands g c =
-    reached_stands g.C.Core c.args.send_order.now.quiet c.loop-moment.moment c.args.horizon c.args.seats.now c.loop-moment.seats c.loop-moment.list.items
-    c.loop-moment.invariant (omega arith) (omega (arith, c.requires.horizon))
+pub returns-clause-list : goal.returns-clause-list
+returns-clause-list g c =
+    let q = c.args.send_order.now.quiet in
+    let xs = c.args.seats.now in
+    let ys = c.loop-moment.seats in
+    let l = c.loop-moment.list.items in
+    let so = c.loop-moment.invariant in
+    record {
+      lawful = reached_lawful g.C.Core q c.loop-moment.moment c.args.horizon xs ys l so (omega arith);
+      only = reached_only g.C.Core q c.loop-moment.moment c.args.horizon xs ys l (own_numbers xs c.args.send_order.now.places.items c.requires.send_order.order) so (omega arith);
+      stands = reached_stands g.C.Core q c.loop-moment.moment c.args.horizon xs ys l so (omega arith) (omega (arith, c.requires.horizon));
+      keeps = so.stations;
+    }
 
 pub returns-in_err-bit_time-clause-numbers : goal.returns-in_err-bit_time-clause-numbers
 returns-in_err-bit_time-clause-numbers g c =

@@ -46,26 +46,23 @@ tell_all-requires-clause-sit g c =
     (let e : c.args.send_order.now.quiet + c.loop-moment.moment ≡ c.args.send_order.now.quiet + c.args.horizon = omega arith in e)
     (all_sit g.C.Core c.args.send_order.now.quiet c.args.horizon c.loop-moment.moment c.loop-moment.seats (clocks_of c.loop-moment.idle.ended c.loop-moment.all_timers) c.loop-moment.list.items c.loop-moment.invariant.so.rests)
 
-pub returns-clause-lawful : goal.returns-clause-lawful
-returns-clause-lawful g c =
-    let within : c.loop-moment.moment ≤ c.args.horizon = c.loop-moment.invariant.so.rests.within in
-    run_lawful g.C.Core c.args.send_order.now.quiet c.args.horizon c.args.seats.now c.loop-moment.seats (clocks_of c.loop-moment.idle.ended c.loop-moment.all_timers) c.loop-moment.list.items c.loop-moment.moment c.loop-moment.invariant.so (omega arith)
-
-pub returns-clause-only : goal.returns-clause-only
-returns-clause-only g c =
-    let within : c.loop-moment.moment ≤ c.args.horizon = c.loop-moment.invariant.so.rests.within in
-    run_only g.C.Core c.args.send_order.now.quiet c.args.horizon c.args.seats.now c.loop-moment.seats (clocks_of c.loop-moment.idle.ended c.loop-moment.all_timers) c.loop-moment.list.items c.loop-moment.moment
-    (own_numbers c.args.seats.now c.args.send_order.now.places.items c.requires.send_order.order) c.loop-moment.invariant.so (omega arith)
-
-pub returns-clause-stands : goal.returns-clause-stands
-returns-clause-stands g c =
-    let within : c.loop-moment.moment ≤ c.args.horizon = c.loop-moment.invariant.so.rests.within in
-    run_stands g.C.Core c.args.send_order.now.quiet c.args.horizon c.args.seats.now c.loop-moment.seats c.tell_all.new.seats (clocks_of c.loop-moment.idle.ended c.loop-moment.all_timers) c.loop-moment.list.items c.loop-moment.moment c.loop-moment.invariant.so (omega arith) c.tell_all.ensures
-
-pub returns-clause-keeps : goal.returns-clause-keeps
-returns-clause-keeps g c =
-    run_keeps g.C.Core c.args.send_order.now.quiet (c.args.send_order.now.quiet + c.args.horizon) (clocks_of c.loop-moment.idle.ended c.loop-moment.all_timers) c.loop-moment.seats c.tell_all.new.seats c.loop-moment.invariant.so.rests.same_length c.tell_all.ensures
-    ∙ c.loop-moment.invariant.so.stations
+pub returns-clause-list : goal.returns-clause-list
+returns-clause-list g c =
+    let q = c.args.send_order.now.quiet in
+    let h = c.args.horizon in
+    let xs = c.args.seats.now in
+    let ys = c.loop-moment.seats in
+    let ks = clocks_of c.loop-moment.idle.ended c.loop-moment.all_timers in
+    let l = c.loop-moment.list.items in
+    let t = c.loop-moment.moment in
+    let so = c.loop-moment.invariant.so in
+    let within : c.loop-moment.moment ≤ c.args.horizon = so.rests.within in
+    record {
+      lawful = run_lawful g.C.Core q h xs ys ks l t so (omega arith);
+      only = run_only g.C.Core q h xs ys ks l t (own_numbers xs c.args.send_order.now.places.items c.requires.send_order.order) so (omega arith);
+      stands = run_stands g.C.Core q h xs ys c.tell_all.new.seats ks l t so (omega arith) c.tell_all.ensures;
+      keeps = run_keeps g.C.Core q (q + h) ks ys c.tell_all.new.seats so.rests.same_length c.tell_all.ensures ∙ so.stations;
+    }
 
 pub returns-clause-moved : goal.returns-clause-moved
 returns-clause-moved g c =

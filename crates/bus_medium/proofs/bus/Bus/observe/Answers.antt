@@ -1,8 +1,8 @@
 use Rattle.std.proofs.Common.{◌≡◌, List, [], length, map, ap, sym, ◌∙◌, subst, arith}
-use Rattle.std.specs.Prelude.{IfOk}
 use Rattle.std.proofs.lemmas.List.{with_items_is, length-map}
 use Rattle.bus_medium.specs.Buses.{Seat, number_of, StandsAt}
 use Rattle.bus_medium.specs.Orders.{IsSendOrder}
+use Rattle.bus_medium.proofs.Observing.{observed_lawful, observed_only, observed_stands, observed_stations}
 use Rattle.bus_medium.proofs.bus.Bus.observe.Goals as goal
 
 pub observe_all-requires-clause-stands : goal.observe_all-requires-clause-stands
@@ -28,9 +28,22 @@ invariant_of-self g c =
     subst (λ seats. IsSendOrder (map number_of seats) c.self.inside.send_order.places.items) (sym (with_items_is old new long))
     (subst (λ ns. IsSendOrder ns c.self.inside.send_order.places.items) kept send_order)
 
+pub returns-clause-lawful : goal.returns-clause-lawful
+returns-clause-lawful g c =
+    observed_lawful g.C.Core c.observe_all.result (λ l. l.items) c.args.horizon c.self.inside.send_order.quiet _ _ c.observe_all.new.seats _ _ c.self.view_is c.deref_mut.ensures.value
+    (sym (with_items_is c.self.inside.seats c.observe_all.new.seats (same_length c.observe_all.new.seats c.deref_mut.result.now c.observe_all.ensures.numbers ∙ c.deref_mut.ensures.len))) c.observe_all.ensures.list
+
+pub returns-clause-only : goal.returns-clause-only
+returns-clause-only g c =
+    observed_only g.C.Core c.observe_all.result (λ l. l.items) c.args.horizon c.self.inside.send_order.quiet _ _ c.observe_all.new.seats _ _ c.self.view_is c.deref_mut.ensures.value
+    (sym (with_items_is c.self.inside.seats c.observe_all.new.seats (same_length c.observe_all.new.seats c.deref_mut.result.now c.observe_all.ensures.numbers ∙ c.deref_mut.ensures.len))) c.observe_all.ensures.list
+
 pub returns-clause-stands : goal.returns-clause-stands
 returns-clause-stands g c =
-    let new = c.observe_all.new.seats in
-    let old = c.self.inside.seats in
-    let long : length new ≡ old.len = same_length new c.deref_mut.result.now c.observe_all.ensures.numbers ∙ c.deref_mut.ensures.len in
-    subst (λ seats. IfOk c.observe_all.result (λ list. StandsAt g.C.Core (record { quiet = c.self.inside.send_order.quiet; seats = seats }) list.items c.args.horizon)) (sym (with_items_is old new long)) c.observe_all.ensures.stands
+    observed_stands g.C.Core c.observe_all.result (λ l. l.items) c.args.horizon c.self.inside.send_order.quiet _ _ c.observe_all.new.seats _ _ c.self.view_is c.deref_mut.ensures.value
+    (sym (with_items_is c.self.inside.seats c.observe_all.new.seats (same_length c.observe_all.new.seats c.deref_mut.result.now c.observe_all.ensures.numbers ∙ c.deref_mut.ensures.len))) c.observe_all.ensures.list
+
+pub returns-clause-stations : goal.returns-clause-stations
+returns-clause-stations g c =
+    observed_stations g.C.Core c.observe_all.result (λ l. l.items) c.args.horizon c.self.inside.send_order.quiet _ _ c.observe_all.new.seats _ _ c.self.view_is c.deref_mut.ensures.value
+    (sym (with_items_is c.self.inside.seats c.observe_all.new.seats (same_length c.observe_all.new.seats c.deref_mut.result.now c.observe_all.ensures.numbers ∙ c.deref_mut.ensures.len))) c.observe_all.ensures.list
