@@ -17,8 +17,7 @@ use Rattle.bus_medium.specs.Delays.{Delays, heard, heard_end}
 use Rattle.bus_medium.specs.Wakes.{Wakes, woken_past, woken_place}
 use Rattle.bus_medium.specs.CableLawful.{IsDueOnCable, IsLawfulOnCableTo}
 
--- At this moment the terminal gap of a terminal that was powered up at the place `wake` counts from the place `gap_from`, or will: in the
--- terminal's own past, from g on.
+-- At this moment the terminal gap of a terminal powered up at place `wake` counts from place `gap_from`, or will: in its own past, from g.
 pub record GapAt (sg quiet wake : ℕ) (list : List Entry) (moment : ℕ) (last : Option ℕ) (gap_from : ℕ) : Type 0 where
   pub g : ℕ
   pub is : g + wake ≡ gap_from

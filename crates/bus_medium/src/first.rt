@@ -8,7 +8,7 @@ ghost use Rattle.bus_medium.specs.inside.Lazy.{FirstReady, IsAlone, NextPlace};
 use crate::timers::{BusIdle, Timers};
 
 /// The first place, up to some most, at which a sender is ready; where its timers stand, and whether it alone is.
-#[derive(Clone, Copy, Debug)]
+#[derive(Clone, Copy)]
 struct First {
     /// That place, or the most.
     ready: u64,
@@ -19,7 +19,7 @@ struct First {
 }
 
 /// The next moment at which a sender may start, and the place of the sender, where it is known to start alone.
-#[derive(Clone, Copy, Debug)]
+#[derive(Clone, Copy)]
 pub struct Next {
     /// The moment, from the settled start on.
     pub moment: u64,

@@ -1,14 +1,13 @@
 //! Where a running message is.
-ghost use Rattle.std.specs.Prelude.{◌≡◌, ℕ, ◌+◌, ◌<◌, ◌≤◌, MatchOption, length};
+ghost use Rattle.std.specs.Prelude.{◌≡◌, ◌+◌, ◌<◌, ◌≤◌, MatchOption};
 ghost use Rattle.bus_strings.specs.Messages.{bits as length_of, IsMessage};
-ghost use Rattle.bus_strings.specs.Pulses.{is_on};
 
 use bus_strings::Message;
 use bus_strings::limits::{INNER_GAP, WORD_BITS};
 use std::cmp::min;
 
 /// Where a running message is: at a pulse, or in the quiet behind it, and how many bit times of that are left.
-#[derive(Clone, Copy, Debug)]
+#[derive(Clone, Copy)]
 pub struct Place {
     /// The pulse, or the one before the quiet.
     pub pulse: usize,

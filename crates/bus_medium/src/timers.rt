@@ -11,7 +11,7 @@ use std::cmp::max;
 pub const NEVER: u64 = u64::MAX;
 
 /// Since when the bus is idle, which all senders heard alike, and the shortest of their synchronization gaps.
-#[derive(Clone, Copy, Debug)]
+#[derive(Clone, Copy)]
 pub struct BusIdle {
     /// The place at which the bus became quiet for the last time: 0 before anything was sent.
     pub ended: u64,
@@ -22,7 +22,7 @@ pub struct BusIdle {
 /// A sender's timers in plain numbers, kept beside its core. The core is told what was heard only where the sender
 /// starts, and at the horizon; these numbers, and what all have heard, tell when that is. A place is a moment counted
 /// from the beginning of the past.
-#[derive(Clone, Copy, Debug)]
+#[derive(Clone, Copy)]
 pub struct Timers {
     /// The synchronization gap, in bit times.
     pub sg: u32,

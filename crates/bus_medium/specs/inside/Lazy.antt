@@ -39,7 +39,7 @@ pub record Clock : Type 0 where
   pub gap_from : ℕ
   pub ready : ℕ
 
--- The clock that a timers keeps, where the bus became quiet at the place `ended`.
+-- The clock that timers keep, where the bus became quiet at the place `ended`.
 abbrev pub clock_of : ℕ → Timers → Clock
 clock_of ended timers = record {
   sg = timers.sg;
@@ -58,7 +58,7 @@ clocks_of ended all_timers = map (clock_of ended) all_timers
 abbrev pub never : ℕ
 never = 18446744073709551615
 
--- A place at which something of the sender is due: never, where no message is left.
+-- The place at which something of the sender is due, and `never` where no message is left.
 abbrev pub due_at : {C : Type 0} → Seat C → ℕ → ℕ
 due_at seat place = if nat_lt seat.terminal.sent (length seat.terminal.hand.messages) then place else never
 
@@ -86,7 +86,8 @@ pub record Clocked (C : Type 0) : Type 0 where
   pub seat : Seat C
   pub clock : Clock
 
--- The past p ends at the place now. The clock goes with all of it, and the core stands for what it has been told, from the place quiet on.
+-- The past p ends at the place now. The clock goes with all of it. The core stands for what it has been told: the quiet before the settled
+-- start at least.
 pub record StandsLazily {C : Type 0} (core : Ghosts C) (quiet now : ℕ) (x : Clocked C) (timing : Timing) (p : List Bool) (last : Option ℕ)
     : Type 0 where
   pub sound : IsSound timing
@@ -167,56 +168,56 @@ pub record EndsAt (t : ℕ) (old new : List Entry) (end : ℕ) : Type 0 where
   pub ended : HaveEnded old t → HaveEnded new end
   pub last : (end ≡ t) ⊎ ((x : Entry) × In x new × (x.moment ≡ t) × (end_of x ≡ end))
 
--- The first place, up to the most, at which the clock of some sender is ready.
+-- The first place at which the clock of some sender is ready, or `most` where none is before that.
 pub record FirstReady (most : ℕ) (clocks : List Clock) (first : ℕ) : Type 0 where
   pub high : first ≤ most
   pub before : (j : ℕ) (k : Clock) → slice_get clocks j ≡ Some k → first ≤ k.ready
   pub found : (first ≡ most) ⊎ ((j : ℕ) × (k : Clock) × (slice_get clocks j ≡ Some k) × (k.ready ≤ first))
 
--- The first place from now on, and up to the most, at which the clock of some sender is ready.
+-- The first place, from `now` on, at which the clock of some sender is ready, or `most` where none is before that.
 pub record NextPlace (now most : ℕ) (clocks : List Clock) (place : ℕ) : Type 0 where
   pub low : now ≤ place
   pub high : place ≤ most
   pub before : (j : ℕ) (k : Clock) → slice_get clocks j ≡ Some k → (place ≤ k.ready) ⊎ (place ≡ now)
   pub found : (place ≡ most) ⊎ ((j : ℕ) × (k : Clock) × (slice_get clocks j ≡ Some k) × (k.ready ≤ place))
 
--- None but the clock at place p is ready at this place, or before.
+-- Of the clocks none but number p of the list, from 0, is ready at this place, or before.
 pub record IsAlone (place : ℕ) (clocks : List Clock) (p : ℕ) : Type 0 where
   pub within : p < length clocks
   pub others : (j : ℕ) (k : Clock) → j ≢ p → slice_get clocks j ≡ Some k → place < k.ready
 
--- A timers between two messages: its synchronization gap elapsed before the bus became quiet, or counts from there, and its terminal gap
+-- Timers between two messages: their synchronization gap elapsed before the bus became quiet, or counts from there, and their terminal gap
 -- counts behind that.
 pub record IsKept (timers : Timers) : Type 0 where
   pub counted : (timers.behind ≡ 0) ⊎ (timers.behind ≡ timers.sg)
   pub small : timers.behind < 2 ^ 32
   pub over : timers.over ≡ timers.behind + timers.tg
 
--- No sender has a shorter synchronization gap.
+-- No sender's synchronization gap is shorter than `least`.
 abbrev pub AreNoShorter : ℕ → List Clock → Type 0
 AreNoShorter least clocks = (j : ℕ) (k : Clock) → slice_get clocks j ≡ Some k → least ≤ k.sg
 
--- Every timers is kept.
+-- So are the timers of each sender.
 abbrev pub EachKept : List Timers → Type 0
 EachKept all_timers = (j : ℕ) (w : Timers) → slice_get all_timers j ≡ Some w → IsKept w
 
--- All timers between two messages, at the place now.
+-- All timers between two messages at the place now, where `idle` has what all have heard.
 pub record AreKept (idle : BusIdle) (now : ℕ) (all_timers : List Timers) : Type 0 where
   pub ended : idle.ended ≤ now
   pub least : AreNoShorter idle.least (clocks_of idle.ended all_timers)
   pub each : EachKept all_timers
 
--- All but the one of the sender that started alone.
+-- Where one sender started alone, the timers of all others are kept. Where none did, nothing is said.
 abbrev pub OthersKept : Option ℕ → List Timers → Type 0
 OthersKept alone all_timers =
     IfSome alone (λ p. (p < length all_timers) × ((j : ℕ) (w : Timers) → j ≢ p → slice_get all_timers j ≡ Some w → IsKept w))
 
--- A timers tells that its sender is ready later than the most, a place so far behind the one at which the bus became quiet: its interval
+-- Timers tell that their sender is ready later than `most`, a place so far behind the one at which the bus became quiet: its interval
 -- elapses later, or its terminal gap is over later.
 abbrev pub IsLater : ℕ → ℕ → Timers → Type 0
 IsLater most behind timers = (most < timers.due) ⊎ (behind < timers.over)
 
--- It tells that its sender is ready by then.
+-- They tell that their sender is ready by then.
 abbrev pub IsSoon : ℕ → ℕ → Timers → Type 0
 IsSoon most behind timers = (timers.due ≤ most) × (timers.over ≤ behind)
 

@@ -1,4 +1,4 @@
-use Rattle.std.proofs.Common.{◌+◌, ◌-◌, ◌<◌, ◌^◌, false, ltb, get_or, arith}
+use Rattle.std.proofs.Common.{◌+◌, ◌<◌, ◌^◌, false, ltb, get_or, arith}
 use Rattle.std.proofs.lemmas.Bool.{ltb-true}
 use Rattle.std.proofs.lemmas.Option.{slice_get-get_or}
 use Rattle.bus_medium.specs.declared.timers.Timers.{Timers}
