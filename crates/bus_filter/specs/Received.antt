@@ -12,8 +12,7 @@ use Rattle.bus_strings.specs.Transmissions.{marks}
 use Rattle.bus_table.specs.declared.line.TakeLine.{TakeLine}
 use Rattle.bus_table.specs.Tables.{Sender, Listener, Table}
 
--- What one match gives, a receive line's of a wordstring: the moment of the transmission, the wordstring's label and extension, and the
--- words taken.
+-- What a receive line gives of a wordstring that it matches: the transmission's moment, the label and extension, and the words taken.
 pub record ReceivedLine : Type 0 where
   pub moment : ℕ
   pub label : ℕ

@@ -10,8 +10,7 @@ use Rattle.bus_schedule.specs.Closed.{closed, closed_end}
 use Rattle.bus_schedule.specs.Runs.{IsClear, IsInTurns, IsPaced}
 
 -- How late a terminal may hear the senders of a table so as to hear no two transmissions overlap, where the delays between the senders are
--- up to `most`: so much too, and a sender alone as late as the synchronization gap. All are
--- bit times.
+-- up to `most`: so much too, and a sender alone as late as the synchronization gap, in bit times.
 abbrev pub clear_within : Table → ℕ → ℕ
 clear_within table most = if length table.senders == 1 then table.sg else most
 

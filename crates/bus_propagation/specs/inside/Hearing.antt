@@ -15,25 +15,25 @@ use Rattle.bus_medium.specs.CableLawful.{IsDueOnCable}
 abbrev pub HaveBegun : List Entry → ℕ → ℕ → Type 0
 HaveBegun list number u = (x : Entry) → In x list → x.terminal ≡ number → x.moment < u
 
--- Where the terminal gap counts from behind an arrival that ends at moment `end`, where it counted from place G at moment `at`.
+-- Where the terminal gap counts from behind an arrival that ends at moment `end`, where it counted from place `gap_from` at moment `at`.
 abbrev pub gap_after : ℕ → ℕ → ℕ → ℕ → ℕ → ℕ
-gap_after quiet sg G at end = if nat_le G (quiet + at) then quiet + end else quiet + end + sg
+gap_after quiet sg gap_from at end = if nat_le gap_from (quiet + at) then quiet + end else quiet + end + sg
 
 -- The moment from which both timers allow a start, if nothing more is heard.
 abbrev pub ready_moment : Timing → ℕ → ℕ → ℕ
-ready_moment timing D G = max D (G + timing.tg) - timing.quiet
+ready_moment timing due gap_from = max due (gap_from + timing.tg) - timing.quiet
 
--- The terminal has heard what the list tells up to moment v. Its interval elapses at place D, and its terminal gap counts from place G:
+-- The terminal has heard what the list tells up to moment v. Its interval elapses at place `due`, its terminal gap counts from `gap_from`:
 --   powered   it was powered up by then
 --   begun     its own transmissions began by then
 --   fresh     it was powered up, started or heard the end of something there, or nothing has come since the settled start.
-pub record Hears (delay : Delays) (wake : Wakes) (s : Station) (list : List Entry) (v D G : ℕ) : Type 0 where
+pub record Hears (delay : Delays) (wake : Wakes) (s : Station) (list : List Entry) (v due gap_from : ℕ) : Type 0 where
   pub powered : wake s.number ≤ s.timing.quiet + v
   pub begun : HaveBegun list s.number (v + 1)
-  pub interval : due_place s.timing (woken_place s.timing.quiet (wake s.number) (own list s.number (v + 1))) + wake s.number ≡ D
+  pub interval : due_place s.timing (woken_place s.timing.quiet (wake s.number) (own list s.number (v + 1))) + wake s.number ≡ due
   pub gap : GapAt s.timing.sg s.timing.quiet (wake s.number) (heard delay s.number list) v
-      (woken_place s.timing.quiet (wake s.number) (own list s.number (v + 1))) G
-  pub fresh : (G ≡ s.timing.quiet + v) ⊎ ((G ≡ s.timing.quiet + v + s.timing.sg) ⊎ ((v ≡ 0) × HaveBegun list s.number 0))
+      (woken_place s.timing.quiet (wake s.number) (own list s.number (v + 1))) gap_from
+  pub fresh : (gap_from ≡ s.timing.quiet + v) ⊎ ((gap_from ≡ s.timing.quiet + v + s.timing.sg) ⊎ ((v ≡ 0) × HaveBegun list s.number 0))
 
 -- It isn't due at any moment from v on and before u, where it hasn't begun.
 abbrev pub RestsUntil : Delays → Wakes → Station → List Entry → ℕ → ℕ → Type 0
