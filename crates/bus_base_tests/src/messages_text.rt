@@ -1,18 +1,23 @@
 //! Messages texts that are read, and that are refused.
+ghost use Rattle.std.specs.Prelude.{◌≤◌};
+
 use bus_outer::MemorySink;
-use bus_strings::{MessagesError, Payloads, read_messages, write_messages};
+use bus_strings::{MessagesError, Payload, read_messages, write_messages};
 use bus_text::Reason;
 use std::alloc::{AllocError, Global};
+use std::process::Abort;
 use std::test::Fail;
 
 const TWO_ITEMS: &[u8] = b"MESSAGES 1\nMSG 1 : 0000 0001\nMSG 2 : 00FF\n";
 
-/// Where a text is refused, and why.
-fn refusal(outcome: &Result<Payloads, MessagesError>) -> Option<(u64, Reason)> {
-    match outcome {
-        Err(MessagesError::Text { line, reason }) => Some((*line, *reason)),
-        _ => None,
-    }
+/// How many items a text has.
+fn item_count(alloc: Global, text: &[u8]) -> Result<usize, MessagesError> {
+    Ok(read_messages(alloc, text)?.items.len())
+}
+
+/// That a text is refused at this line.
+const fn refused(line: u64, reason: Reason) -> Result<usize, MessagesError> {
+    Err(MessagesError::Text { line, reason })
 }
 
 /// A text of one item with so many wordstrings of so many data words.
@@ -27,41 +32,66 @@ fn item_text(alloc: Global, strings: u32, words: u32) -> Result<Vec<u8>, AllocEr
     Ok(text)
 }
 
-#[test]
-fn two_items_are_read_and_written_back(rt: HostRuntime) -> Result<(), Fail> {
-    let payloads = read_messages(rt.alloc(), TWO_ITEMS)?;
-    assert_eq!(rt; payloads.items.len(), 2);
-    assert_eq!(rt; payloads.items[0].terminal, 1);
-    assert_eq!(rt; payloads.items[0].strings.len(), 1);
-    assert_eq!(rt; payloads.items[0].strings[0].as_slice(), [0, 1].as_slice());
-    assert_eq!(rt; payloads.items[1].terminal, 2);
-    assert_eq!(rt; payloads.items[1].strings.len(), 1);
-    assert_eq!(rt; payloads.items[1].strings[0].as_slice(), [0xFF].as_slice());
+/// The terminal of an item, and the data words of its only wordstring.
+fn only_string(item: &Payload) -> Option<(u8, &[u16])> {
+    match item.strings.as_slice() {
+        [words] => Some((item.terminal, words.as_slice())),
+        _ => None,
+    }
+}
 
-    let mut sink = MemorySink::new(rt.alloc(), 42, 5, Vec::new(rt.alloc()))?;
+/// What a text stands for is written as another one, in pieces of so many bytes, in a sink that has just the room for it.
+fn is_written_as(
+    rt: &impl Abort,
+    alloc: Global,
+    text: &[u8],
+    piece: usize,
+    written: &[u8],
+) -> Result<(), Fail>
+    requires { 1 ≤ piece }
+{
+    let payloads = read_messages(alloc, text)?;
+    let mut sink = MemorySink::new(alloc, written.len(), piece, Vec::new(alloc))?;
     assert!(rt; write_messages(&payloads, &mut sink).is_ok());
-    assert_eq!(rt; sink.bytes(), TWO_ITEMS);
+    assert_eq!(rt; sink.bytes(), written);
     Ok(())
+}
+
+#[test]
+fn two_items_are_read(rt: HostRuntime) -> Result<(), Fail> {
+    let payloads = read_messages(rt.alloc(), TWO_ITEMS)?;
+    if let [first, second] = payloads.items.as_slice() {
+        assert_eq!(rt;
+            (only_string(first), only_string(second)),
+            (Some((1, [0, 1].as_slice())), Some((2, [0xFF].as_slice())),)
+        );
+        return Ok(());
+    }
+    Err("two items")?
+}
+
+#[test]
+fn two_items_are_written_back(rt: HostRuntime) -> Result<(), Fail> {
+    is_written_as(&rt, rt.alloc(), TWO_ITEMS, 5, TWO_ITEMS)
 }
 
 #[test]
 fn blanks_comments_and_small_letters_are_read(rt: HostRuntime) -> Result<(), Fail> {
     let text = b"# hands\n\n\tMESSAGES 1 \r\n  # MSG\n MSG\t9 : : beef :";
-    let payloads = read_messages(rt.alloc(), text)?;
-    let mut sink = MemorySink::new(rt.alloc(), 99, 99, Vec::new(rt.alloc()))?;
-    assert!(rt; write_messages(&payloads, &mut sink).is_ok());
-    assert_eq!(rt; sink.bytes(), b"MESSAGES 1\nMSG 9 : : BEEF :\n".as_slice());
-    Ok(())
+    let written = b"MESSAGES 1\nMSG 9 : : BEEF :\n";
+    is_written_as(&rt, rt.alloc(), text, 99, written)
 }
 
 #[test]
-fn a_text_may_end_behind_its_header_and_not_before(rt: HostRuntime) -> Result<(), Fail> {
-    assert_eq!(rt; read_messages(rt.alloc(), b"MESSAGES 1")?.items.len(), 0);
-    let none = read_messages(rt.alloc(), b"");
-    assert_eq!(rt; refusal(&none), Some((1, Reason::Ended)));
-    let skipped = read_messages(rt.alloc(), b"\n# a\n \t\r");
-    assert_eq!(rt; refusal(&skipped), Some((4, Reason::Ended)));
-    Ok(())
+fn a_text_may_end_behind_its_header_and_not_before(rt: HostRuntime) {
+    let cases: [(&[u8], Result<usize, MessagesError>); 3] = [
+        (b"MESSAGES 1", Ok(0)),
+        (b"", refused(1, Reason::Ended)),
+        (b"\n# a\n \t\r", refused(4, Reason::Ended)),
+    ];
+    for (text, answer) in cases {
+        assert_eq!(rt; item_count(rt.alloc(), text), answer);
+    }
 }
 
 #[test]
@@ -80,18 +110,19 @@ fn the_first_reason_of_the_first_wrong_line_is_told(rt: HostRuntime) {
         (b"MESSAGES 1\nMSG 0 :\nMSG 1 : x", 2, Reason::Range),
     ];
     for (text, line, reason) in cases {
-        let outcome = read_messages(rt.alloc(), text);
-        assert_eq!(rt; refusal(&outcome), Some((line, reason)));
+        assert_eq!(rt; item_count(rt.alloc(), text), refused(line, reason));
     }
 }
 
 #[test]
 fn an_item_has_31_wordstrings_of_256_words_at_most(rt: HostRuntime) -> Result<(), Fail> {
-    let longest = read_messages(rt.alloc(), &item_text(rt.alloc(), 31, 256)?)?;
-    assert_eq!(rt; longest.items.len(), 1);
-    let strings = read_messages(rt.alloc(), &item_text(rt.alloc(), 32, 0)?);
-    assert_eq!(rt; refusal(&strings), Some((2, Reason::Range)));
-    let words = read_messages(rt.alloc(), &item_text(rt.alloc(), 1, 257)?);
-    assert_eq!(rt; refusal(&words), Some((2, Reason::Range)));
+    for (strings, words, answer) in [
+        (31, 256, Ok(1)),
+        (32, 0, refused(2, Reason::Range)),
+        (1, 257, refused(2, Reason::Range)),
+    ] {
+        let text = item_text(rt.alloc(), strings, words)?;
+        assert_eq!(rt; item_count(rt.alloc(), &text), answer);
+    }
     Ok(())
 }

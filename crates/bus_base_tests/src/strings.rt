@@ -8,7 +8,7 @@ use std::alloc::{AllocError, Global};
 use std::test::Fail;
 
 /// A message whose wordstrings have so many data words, all 7, where there is one.
-pub(crate) fn message(alloc: Global, data_words: &[usize]) -> Result<Option<Message>, AllocError> {
+fn made(alloc: Global, data_words: &[usize]) -> Result<Option<Message>, AllocError> {
     let mut strings = Vec::new(alloc);
     for count in data_words {
         let words = vec![in alloc; 7u16; *count]?;
@@ -23,15 +23,40 @@ pub(crate) fn message(alloc: Global, data_words: &[usize]) -> Result<Option<Mess
     Ok(Message::new(strings))
 }
 
+/// The same, where there has to be one.
+fn message(alloc: Global, data_words: &[usize]) -> Result<Message, Fail> {
+    Ok(made(alloc, data_words)?.ok_or("message")?)
+}
+
+/// Transmissions of one terminal: when each begins, and how many data words each of its wordstrings has.
+pub(crate) fn transmissions(
+    alloc: Global,
+    sendings: &[(u64, &[usize])],
+) -> Result<Vec<Transmission>, Fail> {
+    let mut list = Vec::new(alloc);
+    for (moment, data_words) in sendings {
+        if *moment >= 1000 {
+            return Err("moment".into());
+        }
+        list.push(Transmission {
+            moment: *moment,
+            terminal: 1,
+            message: message(alloc, data_words)?,
+        })?;
+    }
+    Ok(list)
+}
+
 #[test]
 fn a_message_is_quiet_for_four_bit_times_between_two_wordstrings(
     rt: HostRuntime,
 ) -> Result<(), Fail> {
-    let message = message(rt.alloc(), &[1, 2])?.ok_or("message")?;
-    assert_eq!(rt; bits(&message), 104);
+    let message = message(rt.alloc(), &[1, 2])?;
     assert_eq!(rt; pulse_count(&message), 2);
-    assert_eq!(rt; pulse(&message, 0), (0, 40));
-    assert_eq!(rt; pulse(&message, 1), (44, 60));
+    assert_eq!(rt;
+        (bits(&message), pulse(&message, 0), pulse(&message, 1)),
+        (104, (0, 40), (44, 60))
+    );
     for (d, on) in [
         (0, true),
         (39, true),
@@ -46,67 +71,82 @@ fn a_message_is_quiet_for_four_bit_times_between_two_wordstrings(
     Ok(())
 }
 
-#[test]
-fn the_longest_message_has_its_length(rt: HostRuntime) -> Result<(), Fail> {
-    let longest = message(rt.alloc(), &[256; 31])?.ok_or("longest")?;
-    let shortest = message(rt.alloc(), &[0])?.ok_or("shortest")?;
-    assert_eq!(rt; bits(&longest), 159_460);
-    assert_eq!(rt; bits(&shortest), 20);
-    Ok(())
+/// How many bit times a message with such wordstrings takes, where there is one.
+fn length(alloc: Global, data_words: &[usize]) -> Result<Option<u32>, AllocError> {
+    match made(alloc, data_words)? {
+        Some(message) => Ok(Some(bits(&message))),
+        None => Ok(None),
+    }
 }
 
 #[test]
-fn ranges_are_kept(rt: HostRuntime) -> Result<(), Fail> {
-    let alloc = rt.alloc();
-    assert!(rt; message(alloc, &[257])?.is_none());
-    assert!(rt; message(alloc, &[0; 32])?.is_none());
-    assert!(rt; message(alloc, &[])?.is_none());
+fn the_longest_message_has_its_length_and_ranges_are_kept(rt: HostRuntime) -> Result<(), Fail> {
+    let cases: [(&[usize], Option<u32>); 5] = [
+        (&[256; 31], Some(159_460)),
+        (&[0], Some(20)),
+        (&[257], None),
+        (&[0; 32], None),
+        (&[], None),
+    ];
+    for (data_words, bits) in cases {
+        assert_eq!(rt; length(rt.alloc(), data_words)?, bits);
+    }
     Ok(())
+}
+
+/// Whether two wordstrings have the same label, extension and data words.
+fn are_equal(old: &Wordstring, new: &Wordstring) -> bool {
+    (old.label(), old.ext(), old.words()) == (new.label(), new.ext(), new.words())
 }
 
 #[test]
 fn a_copy_is_equal(rt: HostRuntime) -> Result<(), Fail> {
-    let message = message(rt.alloc(), &[1, 2])?.ok_or("message")?;
+    let message = message(rt.alloc(), &[1, 2])?;
     let copy = copy_message(rt.alloc(), &message)?;
-    assert_eq!(rt; copy.strings().len(), 2);
-    for (old, new) in message.strings().iter().zip(copy.strings()) {
-        assert_eq!(rt; old.label(), new.label());
-        assert_eq!(rt; old.ext(), new.ext());
-        assert_eq!(rt; old.words(), new.words());
+    match (message.strings(), copy.strings()) {
+        ([first, second], [third, fourth]) => {
+            assert!(rt; are_equal(first, third) && are_equal(second, fourth));
+        }
+        _ => Err("two wordstrings")?,
     }
     Ok(())
 }
 
-/// The sixth transmission reaches over the two behind it, and the fourth begins in the last bit time of the third.
+/// Nine transmissions. The sixth reaches over the two behind it, and the fourth begins in the last bit time of the third.
+fn nine(alloc: Global) -> Result<Vec<Transmission>, Fail> {
+    transmissions(
+        alloc,
+        &[
+            (0, &[4]),
+            (40, &[0]),
+            (100, &[0]),
+            (119, &[0]),
+            (139, &[0]),
+            (200, &[14]),
+            (210, &[0]),
+            (400, &[0]),
+            (500, &[0]),
+        ],
+    )
+}
+
 #[test]
 fn a_transmission_is_garbled_where_another_overlaps_it(rt: HostRuntime) -> Result<(), Fail> {
-    let alloc = rt.alloc();
-    let mut list = Vec::new(alloc);
-    for (moment, data_words) in [
-        (0, 4),
-        (40, 0),
-        (100, 0),
-        (119, 0),
-        (139, 0),
-        (200, 14),
-        (210, 0),
-        (400, 0),
-        (500, 0),
-    ] {
-        list.push(Transmission {
-            moment,
-            terminal: 1,
-            message: message(alloc, &[data_words])?.ok_or("message")?,
-        })?;
-    }
-    let expected = [true, true, true, true, false, true, true, true, false];
+    let list = nine(rt.alloc())?;
     assert!(rt; is_by_moment(&list));
-    let marks: Vec<bool> = Marks::new(&list).collect(alloc)?;
+    let marks: Vec<bool> = Marks::new(&list).collect(rt.alloc())?;
+    let expected = [true, true, true, true, false, true, true, true, false];
     assert_eq!(rt; marks.as_slice(), expected.as_slice());
     for (k, x) in list.iter().enumerate() {
         let overlapping = list.iter().filter(|y| overlaps(x, y)).count();
         assert_eq!(rt; garbled(&list, k), 1 < overlapping, "entry {k}");
     }
+    Ok(())
+}
+
+#[test]
+fn a_list_from_its_end_is_not_by_moment(rt: HostRuntime) -> Result<(), Fail> {
+    let mut list = nine(rt.alloc())?;
     list.reverse();
     assert!(rt; !is_by_moment(&list));
     Ok(())

@@ -138,13 +138,12 @@ fn a_history_is_heard_at_once(rt: HostRuntime) -> Result<(), Fail> {
         quiet: 5,
         synchronized: false,
     });
-    assert_eq!(rt; core.wait(), 12);
+    let wait = core.wait();
     core.hear(History {
         bits: 40,
         quiet: 3,
         synchronized: true,
     });
-    assert_eq!(rt; core.wait(), 5);
-    assert_eq!(rt; core.moves(), 2);
+    assert_eq!(rt; (wait, core.wait(), core.moves()), (12, 5, 2));
     Ok(())
 }
