@@ -1,13 +1,11 @@
 //! What terminals receive, by example.
-ghost use Rattle.std.specs.Prelude.{◌≤◌, ◌<◌};
-ghost use Rattle.bus_strings.specs.Limits.{horizon_limit, most_terminal};
-
 use bus_filter::{Heard, Receiver, count_received, write_received};
 use bus_outer::{MemorySink, WriteFault};
 use bus_strings::{Message, Transmission, Wordstring, is_by_moment};
 use bus_table::{TakeLine, read_table};
 use bus_words::{Ext, Label, data_word, label_word};
 use std::alloc::Global;
+use std::process::Abort;
 use std::test::Fail;
 
 const TWO_SENDERS_AND_A_LISTENER: &[u8] = b"TABLE 1
@@ -65,67 +63,71 @@ fn pair(label: u16, ext: u8) -> Result<(Label, Ext), Fail> {
     }
 }
 
-/// A transmission of one wordstring with extension 1.
-fn transmission(
-    alloc: Global,
-    moment: u64,
-    terminal: u8,
-    label: u16,
-    words: Vec<u16>,
-) -> Result<Transmission, Fail>
-    requires moment { moment < horizon_limit }
-    requires positive { 1 ≤ terminal }
-    requires low { terminal ≤ most_terminal }
-{
-    let message = Message::one(alloc, wordstring(label, 1, words)?);
-    Ok(Transmission {
-        moment,
-        terminal,
-        message,
-    })
-}
+/// The label, the extension and the data words of a wordstring.
+type Part<'a> = (u16, u8, &'a [u16]);
 
-/// A wordstring of these words.
-fn wordstring(label: u16, ext: u8, words: Vec<u16>) -> Result<Wordstring, Fail> {
-    let (label, ext) = pair(label, ext)?;
-    match Wordstring::new(label, ext, words)? {
+/// A wordstring of these.
+fn wordstring(alloc: Global, part: &Part<'_>) -> Result<Wordstring, Fail> {
+    let (label, ext) = pair(part.0, part.1)?;
+    match Wordstring::new(label, ext, Vec::from_slice(alloc, part.2)?)? {
         Some(string) => Ok(string),
         None => Err(Fail::new("no wordstring")),
     }
 }
 
-/// What the terminals of a table receive of a list, and how many lines that is.
-fn received(
+/// A message of these wordstrings.
+fn message(alloc: Global, parts: &[Part<'_>]) -> Result<Message, Fail> {
+    let mut strings = Vec::new(alloc);
+    for part in parts {
+        strings.push(wordstring(alloc, part)?)?;
+    }
+    Ok(Message::new(strings).ok_or("no message")?)
+}
+
+/// The moment of a transmission, its terminal and its wordstrings.
+type Sending<'a> = (u64, u8, &'a [Part<'a>]);
+
+/// A list of these.
+fn sent(alloc: Global, sendings: &[Sending<'_>]) -> Result<Vec<Transmission>, Fail> {
+    let mut list = Vec::new(alloc);
+    for (moment, terminal, parts) in sendings {
+        if *moment > 2000 || *terminal == 0 || *terminal > 128 {
+            return Err(Fail::new("no transmission"));
+        }
+        list.push(Transmission {
+            moment: *moment,
+            terminal: *terminal,
+            message: message(alloc, parts)?,
+        })?;
+    }
+    Ok(list)
+}
+
+/// The terminals of a table receive so many lines of what is sent, and this text.
+fn is_received(
+    rt: &impl Abort,
     alloc: Global,
     table: &[u8],
-    list: &[Transmission],
-    failing: Vec<u64>,
-) -> Result<(Result<(), WriteFault>, MemorySink, u128), Fail> {
-    let Ok(table) = read_table(alloc, table) else {
-        return Err(Fail::new("the table is refused"));
-    };
-    if !is_by_moment(list) {
-        return Err(Fail::new("the list isn't ordered"));
-    }
-    let mut sink = MemorySink::new(alloc, 1000, 1000, failing)?;
-    let answer = write_received(&table, list, &mut sink);
-    Ok((answer, sink, count_received(&table, list)))
+    sendings: &[Sending<'_>],
+    (lines, want): (u128, &[u8]),
+) -> Result<(), Fail> {
+    let table = read_table(alloc, table)?;
+    let list = sent(alloc, sendings)?;
+    assert!(rt; is_by_moment(&list));
+    assert_eq!(rt; count_received(&table, &list), lines);
+    let mut sink = MemorySink::new(alloc, 1000, 1000, Vec::new(alloc))?;
+    assert_eq!(rt; write_received(&table, &list, &mut sink), Ok(()));
+    assert_eq!(rt; sink.bytes(), want);
+    Ok(())
 }
+
+const ONE_OF_EACH: &[Sending<'static>] = &[
+    (20, 1, &[(0x0A1, 1, &[0, 1])]),
+    (110, 2, &[(0x0B2, 1, &[0xFF])]),
+];
 
 #[test]
 fn words_of_others_are_received(rt: HostRuntime) -> Result<(), Fail> {
-    let alloc = rt.alloc();
-    let mut list = Vec::new(alloc);
-    list.push(transmission(alloc, 20, 1, 0x0A1, Vec::from_slice(alloc, &[0, 1])?)?)?;
-    list.push(transmission(alloc, 110, 2, 0x0B2, Vec::from_slice(alloc, &[0xFF])?)?)?;
-    let (answer, sink, lines) = received(
-        alloc,
-        TWO_SENDERS_AND_A_LISTENER,
-        &list,
-        Vec::new(alloc),
-    )?;
-    assert_eq!(rt; answer, Ok(()));
-    assert_eq!(rt; lines, 2);
     let want = b"RECEIVED 1
 TERMINAL 1
 TERMINAL 2
@@ -134,28 +136,25 @@ TERMINAL 3
 RX 110 0B2 1 00FF
 END
 ";
-    assert_eq!(rt; sink.bytes(), want.as_slice());
-    Ok(())
+    is_received(
+        &rt,
+        rt.alloc(),
+        TWO_SENDERS_AND_A_LISTENER,
+        ONE_OF_EACH,
+        (2, want),
+    )
 }
 
 #[test]
 fn a_selection_ends_with_its_wordstring(rt: HostRuntime) -> Result<(), Fail> {
-    let alloc = rt.alloc();
-    let mut words = Vec::new(alloc);
-    for word in 0..30u16 {
-        words.push(word)?;
-    }
-    let mut list = Vec::new(alloc);
-    list.push(transmission(alloc, 20, 1, 0x0A1, Vec::from_slice(alloc, &[0, 0])?)?)?;
-    list.push(transmission(alloc, 110, 2, 0x0B2, words)?)?;
-    let (answer, sink, lines) = received(
-        alloc,
-        A_TERMINAL_THAT_TAKES_ITS_OWN_LABEL,
-        &list,
-        Vec::new(alloc),
-    )?;
-    assert_eq!(rt; answer, Ok(()));
-    assert_eq!(rt; lines, 2);
+    let words = [
+        0, 1, 2, 3, 4, 5, 6, 7, 8, 9, 10, 11, 12, 13, 14, 15, 16, 17, 18, 19, 20, 21, 22, 23, 24,
+        25, 26, 27, 28, 29,
+    ];
+    let sendings: &[Sending<'_>] = &[
+        (20, 1, &[(0x0A1, 1, &[0, 0])]),
+        (110, 2, &[(0x0B2, 1, &words)]),
+    ];
     let want = b"RECEIVED 1
 TERMINAL 1
 TERMINAL 2
@@ -164,55 +163,50 @@ RX 110 0B2 1 001C 001D
 RX 110 0B2 1
 END
 ";
-    assert_eq!(rt; sink.bytes(), want.as_slice());
-    Ok(())
+    is_received(
+        &rt,
+        rt.alloc(),
+        A_TERMINAL_THAT_TAKES_ITS_OWN_LABEL,
+        sendings,
+        (2, want),
+    )
 }
 
 #[test]
 fn garbled_words_are_not_received(rt: HostRuntime) -> Result<(), Fail> {
-    let alloc = rt.alloc();
-    let mut list = Vec::new(alloc);
-    list.push(transmission(alloc, 20, 1, 0x0A1, Vec::from_slice(alloc, &[0, 1])?)?)?;
-    list.push(transmission(alloc, 79, 2, 0x0B2, Vec::new(alloc))?)?;
-    let (answer, sink, lines) = received(
-        alloc,
-        TWO_SENDERS_AND_A_LISTENER,
-        &list,
-        Vec::new(alloc),
-    )?;
-    assert_eq!(rt; answer, Ok(()));
-    assert_eq!(rt; lines, 0);
+    let sendings: &[Sending<'_>] = &[(20, 1, &[(0x0A1, 1, &[0, 1])]), (79, 2, &[(0x0B2, 1, &[])])];
     let want = b"RECEIVED 1\nTERMINAL 1\nTERMINAL 2\nTERMINAL 3\nEND\n";
-    assert_eq!(rt; sink.bytes(), want.as_slice());
-    let failing = Vec::from_slice(alloc, &[0])?;
-    let (failed, empty, _) = received(alloc, TWO_SENDERS_AND_A_LISTENER, &list, failing)?;
-    assert_eq!(rt; failed, Err(WriteFault));
-    assert!(rt; empty.bytes().is_empty());
+    is_received(
+        &rt,
+        rt.alloc(),
+        TWO_SENDERS_AND_A_LISTENER,
+        sendings,
+        (0, want),
+    )
+}
+
+#[test]
+fn a_failed_push_is_a_fault(rt: HostRuntime) -> Result<(), Fail> {
+    let table = read_table(rt.alloc(), TWO_SENDERS_AND_A_LISTENER)?;
+    let list = sent(rt.alloc(), &[(20, 1, &[(0x0A1, 1, &[0, 1])])])?;
+    assert!(rt; is_by_moment(&list));
+    let failing = vec![in rt.alloc(); 0u64]?;
+    let mut sink = MemorySink::new(rt.alloc(), 1000, 1000, failing)?;
+    let answer = write_received(&table, &list, &mut sink);
+    assert_eq!(rt; (answer, sink.bytes()), (Err(WriteFault), b"".as_slice()));
     Ok(())
 }
 
 /// A message of two wordstrings whose labels are the least and the greatest; a garbled one of each terminal; and one in the clear.
 #[test]
 fn lines_are_looked_up_by_label(rt: HostRuntime) -> Result<(), Fail> {
-    let alloc = rt.alloc();
-    let mut words = Vec::new(alloc);
-    for word in 1..10u16 {
-        words.push(word)?;
-    }
-    let mut two = Message::one(alloc, wordstring(0, 0, Vec::from_slice(alloc, &words)?)?);
-    two.push(wordstring(0xFFF, 15, Vec::from_slice(alloc, &[0xABCD, 0xEF, 7])?)?)?;
-    let mut list = Vec::new(alloc);
-    list.push(Transmission {
-        moment: 20,
-        terminal: 1,
-        message: two,
-    })?;
-    list.push(transmission(alloc, 1000, 1, 0xFFF, Vec::from_slice(alloc, &[1, 2])?)?)?;
-    list.push(transmission(alloc, 1010, 2, 0x0A1, Vec::from_slice(alloc, &[1])?)?)?;
-    list.push(transmission(alloc, 2000, 2, 0x0A1, words)?)?;
-    let (answer, sink, lines) = received(alloc, LABELS_AT_BOTH_ENDS, &list, Vec::new(alloc))?;
-    assert_eq!(rt; answer, Ok(()));
-    assert_eq!(rt; lines, 4);
+    let words: &[u16] = &[1, 2, 3, 4, 5, 6, 7, 8, 9];
+    let sendings: &[Sending<'_>] = &[
+        (20, 1, &[(0, 0, words), (0xFFF, 15, &[0xABCD, 0xEF, 7])]),
+        (1000, 1, &[(0xFFF, 1, &[1, 2])]),
+        (1010, 2, &[(0x0A1, 1, &[1])]),
+        (2000, 2, &[(0x0A1, 1, words)]),
+    ];
     let want = b"RECEIVED 1
 TERMINAL 1
 TERMINAL 2
@@ -224,8 +218,7 @@ TERMINAL 4
 RX 2000 0A1 1 0005 0006 0007 0008 0009
 END
 ";
-    assert_eq!(rt; sink.bytes(), want.as_slice());
-    Ok(())
+    is_received(&rt, rt.alloc(), LABELS_AT_BOTH_ENDS, sendings, (4, want))
 }
 
 #[test]

@@ -5,6 +5,8 @@
 #[cfg(test)]
 mod audit;
 #[cfg(test)]
+mod audit_changes;
+#[cfg(test)]
 mod filter;
 #[cfg(test)]
 mod mark;

@@ -1,108 +1,107 @@
 //! Traces that come in pieces.
-use crate::texts::{LINES, OLD_LINES, text_of, written};
+use crate::texts::{LINES, OLD_LINES, is_written_as, text_before, text_of};
 use bus_trace::{Fed, TraceError, TraceReader, TraceReason};
 use std::alloc::Global;
+use std::process::Abort;
 use std::test::Fail;
 
-/// What is written of the trace that these two pieces hold, or nothing where the second doesn't end it.
-fn joined(alloc: Global, first: &[u8], second: &[u8]) -> Result<Vec<u8>, Fail> {
+/// Whether these two pieces hold a trace that is written as `LINES`, and which the second ends.
+fn join(alloc: Global, first: &[u8], second: &[u8]) -> Result<bool, Fail> {
     let mut reader = TraceReader::new(alloc)?;
     if reader.feed(first)? != Fed::More {
-        return Ok(Vec::new(alloc));
+        return Ok(false);
     }
     match reader.feed(second)? {
         Fed::Whole { .. } => {}
-        _ => return Ok(Vec::new(alloc)),
+        _ => return Ok(false),
     }
     match reader.finish() {
-        Ok(trace) => written(alloc, &trace),
-        Err(_) => Ok(Vec::new(alloc)),
+        Ok(trace) => is_written_as(alloc, &trace, &LINES),
+        Err(_) => Ok(false),
     }
+}
+
+/// Each cut into two pieces before this one gives a trace that is written as `LINES`.
+fn each_cut_joins(
+    rt: &impl Abort,
+    alloc: Global,
+    lines: &[(&[u8], usize)],
+    length: usize,
+) -> Result<(), Fail> {
+    let text = text_of(alloc, lines)?;
+    for cut in 0..length {
+        let (first, second) = text.split_at(cut.min(text.len()));
+        assert!(rt; join(alloc, first, second)?, "cut {cut}");
+    }
+    Ok(())
 }
 
 #[test]
 fn each_cut_into_two_pieces_gives_the_same_trace(rt: HostRuntime) -> Result<(), Fail> {
-    let alloc = rt.alloc();
-    let (text, old) = (text_of(alloc, &LINES)?, text_of(alloc, &OLD_LINES)?);
-    for cut in 0..117usize {
-        let (first, second) = text.split_at(cut.min(text.len()));
-        assert_eq!(rt;
-            joined(alloc, first, second)?.as_slice(),
-            text.as_slice(),
-            "cut {cut}"
-        );
-    }
-    for cut in 0..100usize {
-        let (first, second) = old.split_at(cut.min(old.len()));
-        assert_eq!(rt;
-            joined(alloc, first, second)?.as_slice(),
-            text.as_slice(),
-            "cut {cut}"
-        );
-    }
-    Ok(())
+    each_cut_joins(&rt, rt.alloc(), &LINES, 117)?;
+    each_cut_joins(&rt, rt.alloc(), &OLD_LINES, 100)
 }
 
-/// What is written of a trace in pieces of a size, behind which other bytes stand, and how many of the last piece were used.
-fn in_pieces(alloc: Global, text: &[u8], size: usize) -> Result<(Vec<u8>, usize), Fail> {
+/// How many bytes of the last piece were used, where pieces of a size hold a trace that is written as `LINES`.
+fn used_of_last(alloc: Global, text: &[u8], size: usize) -> Result<Option<usize>, Fail> {
     let mut reader = TraceReader::new(alloc)?;
     for piece in text.chunks(size.max(1)) {
         if !reader.is_open() {
-            return Err(Fail::new("the trace is refused"));
+            return Ok(None);
         }
         if let Fed::Whole { used } = reader.feed(piece)? {
             return match reader.finish() {
-                Ok(trace) => Ok((written(alloc, &trace)?, used)),
-                Err(_) => Err(Fail::new("a whole trace is none")),
+                Ok(trace) if is_written_as(alloc, &trace, &LINES)? => Ok(Some(used)),
+                _ => Ok(None),
             };
         }
     }
-    Err(Fail::new("the trace goes on"))
+    Ok(None)
 }
 
+const PIECES: [(&[(&[u8], usize)], usize, usize); 6] = [
+    (&LINES, 1, 1),
+    (&LINES, 7, 5),
+    (&LINES, 200, 117),
+    (&OLD_LINES, 1, 1),
+    (&OLD_LINES, 7, 2),
+    (&OLD_LINES, 200, 100),
+];
+
+/// Behind the trace other bytes stand.
 #[test]
 fn pieces_of_any_size_give_the_same_trace(rt: HostRuntime) -> Result<(), Fail> {
-    let alloc = rt.alloc();
-    let text = text_of(alloc, &LINES)?;
-    let rows: [(&[(&[u8], usize)], usize, usize); 6] = [
-        (&LINES, 1, 1),
-        (&LINES, 7, 5),
-        (&LINES, 200, 117),
-        (&OLD_LINES, 1, 1),
-        (&OLD_LINES, 7, 2),
-        (&OLD_LINES, 200, 100),
-    ];
-    for (lines, size, used) in rows {
-        let mut bytes = text_of(alloc, lines)?;
-        bytes.extend_from_slice(b"RECEIVED 1\n")?;
-        let (again, count) = in_pieces(alloc, &bytes, size)?;
-        assert_eq!(rt; again.as_slice(), text.as_slice());
-        assert_eq!(rt; count, used, "{} lines in pieces of {size}", lines.len());
+    for (lines, size, used) in &PIECES {
+        let bytes = text_before(rt.alloc(), lines, b"RECEIVED 1\n")?;
+        let (size, used) = (*size, *used);
+        assert!(rt;
+            used_of_last(rt.alloc(), &bytes, size)? == Some(used),
+            "{used} used of pieces of {size}"
+        );
     }
     Ok(())
+}
+
+/// Whether a reader takes this front of a trace, and ends too early where what is pending begins.
+fn ends_where_pending_begins(alloc: Global, front: &[u8]) -> Result<bool, Fail> {
+    let mut reader = TraceReader::new(alloc)?;
+    if reader.feed(front)? != Fed::More || !reader.is_open() {
+        return Ok(false);
+    }
+    let byte = front.len().saturating_sub(reader.pending().len()) as u64;
+    let want = TraceError::Text {
+        byte,
+        reason: TraceReason::Ended,
+    };
+    Ok(matches!(reader.finish(), Err(error) if error == want))
 }
 
 #[test]
 fn an_end_too_early_is_where_what_is_pending_begins(rt: HostRuntime) -> Result<(), Fail> {
-    let alloc = rt.alloc();
-    let text = text_of(alloc, &LINES)?;
+    let text = text_of(rt.alloc(), &LINES)?;
     for cut in 0..117usize {
-        let mut reader = TraceReader::new(alloc)?;
         let front = text.get(..cut).unwrap_or(&[]);
-        let answer = reader.feed(front)?;
-        assert!(rt; answer == Fed::More && reader.is_open(), "cut {cut}");
-        if !reader.is_open() {
-            return Err(Fail::new("the reader is shut"));
-        }
-        let byte = front.len().saturating_sub(reader.pending().len()) as u64;
-        let want = TraceError::Text {
-            byte,
-            reason: TraceReason::Ended,
-        };
-        assert!(rt;
-            matches!(reader.finish(), Err(error) if error == want),
-            "cut {cut}"
-        );
+        assert!(rt; ends_where_pending_begins(rt.alloc(), front)?, "cut {cut}");
     }
     Ok(())
 }

@@ -7,6 +7,7 @@ use bus_strings::{Message, Transmission, Wordstring};
 use bus_trace::{Hold, Trace, TraceError, TraceReason, read_trace, write_trace};
 use bus_words::{Ext, Label};
 use std::alloc::Global;
+use std::process::Abort;
 use std::test::Fail;
 
 /// The trace of two transmissions, each line with the byte at which it begins.
@@ -50,45 +51,59 @@ pub(crate) fn read(alloc: Global, text: &[u8]) -> Result<Result<Trace, TraceErro
     Ok(read_trace(alloc, &mut source))
 }
 
-/// The text that is written of a trace.
-pub(crate) fn written(alloc: Global, trace: &Trace) -> Result<Vec<u8>, Fail> {
+/// The trace that these lines are, and have to be.
+pub(crate) fn trace_of(alloc: Global, lines: &[(&[u8], usize)]) -> Result<Trace, Fail> {
+    let text = text_of(alloc, lines)?;
+    match read(alloc, &text)? {
+        Ok(trace) => Ok(trace),
+        Err(_) => Err(Fail::new("the trace is refused")),
+    }
+}
+
+/// Whether a trace is written as these lines.
+pub(crate) fn is_written_as(
+    alloc: Global,
+    trace: &Trace,
+    lines: &[(&[u8], usize)],
+) -> Result<bool, Fail> {
     let mut sink = MemorySink::new(alloc, 400, 400, Vec::new(alloc))?;
     if write_trace(trace, &mut sink).is_err() {
-        return Err(Fail::new("the trace isn't written"));
+        return Ok(false);
     }
-    Ok(Vec::from_slice(alloc, sink.bytes())?)
+    let text = text_of(alloc, lines)?;
+    Ok(sink.bytes() == text.as_slice())
+}
+
+/// The text of these lines, with another behind it.
+pub(crate) fn text_before(
+    alloc: Global,
+    lines: &[(&[u8], usize)],
+    rest: &[u8],
+) -> Result<Vec<u8>, Fail> {
+    let mut text = text_of(alloc, lines)?;
+    text.extend_from_slice(rest)?;
+    Ok(text)
 }
 
 #[test]
 fn a_trace_is_read_up_to_its_end_and_written_again(rt: HostRuntime) -> Result<(), Fail> {
-    let alloc = rt.alloc();
-    let text = text_of(alloc, &LINES)?;
-    let mut bytes = Vec::from_slice(alloc, &text)?;
-    bytes.extend_from_slice(b"RECEIVED 1\n")?;
-    let mut source = MemorySource::new(bytes, 7, Vec::new(alloc));
-    let Ok(trace) = read_trace(alloc, &mut source) else {
-        return Err(Fail::new("the trace is refused"));
-    };
-    let rest = read_whole(alloc, &mut source, 100);
-    assert!(rt; matches!(&rest, Ok(rest) if rest.as_slice() == b"RECEIVED 1\n".as_slice()));
-    assert_eq!(rt; written(alloc, &trace)?.as_slice(), text.as_slice());
+    let bytes = text_before(rt.alloc(), &LINES, b"RECEIVED 1\n")?;
+    let mut source = MemorySource::new(bytes, 7, Vec::new(rt.alloc()));
+    let trace = read_trace(rt.alloc(), &mut source).expect(&rt, "a trace");
+    assert!(rt; is_written_as(rt.alloc(), &trace, &LINES)?);
+    let rest = read_whole(rt.alloc(), &mut source, 100).expect(&rt, "the rest");
+    assert_eq!(rt; rest.as_slice(), b"RECEIVED 1\n".as_slice());
     Ok(())
 }
 
 #[test]
 fn a_trace_of_format_1_is_written_in_format_2(rt: HostRuntime) -> Result<(), Fail> {
-    let alloc = rt.alloc();
-    let Ok(trace) = read(alloc, &text_of(alloc, &OLD_LINES)?)? else {
-        return Err(Fail::new("the trace is refused"));
-    };
+    let trace = trace_of(rt.alloc(), &OLD_LINES)?;
     assert_eq!(rt;
         (trace.horizon(), trace.holds().len(), trace.list().len()),
         (150, 2, 2)
     );
-    assert_eq!(rt;
-        written(alloc, &trace)?.as_slice(),
-        text_of(alloc, &LINES)?.as_slice()
-    );
+    assert!(rt; is_written_as(rt.alloc(), &trace, &LINES)?);
     Ok(())
 }
 
@@ -109,83 +124,101 @@ fn ends_there(alloc: Global, lines: &[(&[u8], usize)], cut: usize) -> Result<boo
     Ok(matches!(answer, Err(error) if error == want))
 }
 
-#[test]
-fn a_cut_trace_ends_where_its_last_line_begins(rt: HostRuntime) -> Result<(), Fail> {
-    let alloc = rt.alloc();
-    for cut in 0..117usize {
-        assert!(rt; ends_there(alloc, &LINES, cut)?, "cut after {cut}");
-    }
-    for cut in 0..100usize {
-        assert!(rt;
-            ends_there(alloc, &OLD_LINES, cut)?,
-            "format 1 cut after {cut}"
-        );
+/// Each cut before this one is refused where its last line begins.
+fn end_there(
+    rt: &impl Abort,
+    alloc: Global,
+    lines: &[(&[u8], usize)],
+    length: usize,
+) -> Result<(), Fail> {
+    for cut in 0..length {
+        assert!(rt; ends_there(alloc, lines, cut)?, "cut after {cut}");
     }
     Ok(())
 }
 
-/// Whether a text with one line changed is refused where that line or a later one begins.
-pub(crate) fn is_refused(
+#[test]
+fn a_cut_trace_ends_where_its_last_line_begins(rt: HostRuntime) -> Result<(), Fail> {
+    end_there(&rt, rt.alloc(), &LINES, 117)?;
+    end_there(&rt, rt.alloc(), &OLD_LINES, 100)
+}
+
+/// Why a text with one line changed is refused, if it is.
+fn refusal(
     alloc: Global,
     lines: &[(&[u8], usize)],
     number: usize,
     line: &[u8],
-    want: TraceError,
-) -> Result<bool, Fail> {
+) -> Result<Option<TraceError>, Fail> {
     let mut text = Vec::new(alloc);
     for (k, (own, _)) in lines.iter().enumerate() {
         text.extend_from_slice(if k == number { line } else { own })?;
     }
-    let answer = read(alloc, &text)?;
-    Ok(matches!(answer, Err(error) if error == want))
+    Ok(read(alloc, &text)?.err())
 }
 
-#[test]
-fn a_changed_line_is_refused_where_it_begins(rt: HostRuntime) -> Result<(), Fail> {
-    let changes: [(usize, &[u8], u64, TraceReason); 10] = [
-        (0, b"TRACE 3\n", 0, TraceReason::Fields),
-        (4, b"TX  20 1\n", 38, TraceReason::Fields),
-        (4, b"TX 020 1\n", 38, TraceReason::Spelling),
-        (5, b"WS D0A111 D00001 D00010\n", 46, TraceReason::Spelling),
-        (7, b"WS L0B210 D00FF0\n", 79, TraceReason::Parity),
-        (6, b"TX 150 2\n", 70, TraceReason::Range),
-        (6, b"TX 20 1\n", 70, TraceReason::Order),
-        (3, b"HOLD 1 1\n", 29, TraceReason::Order),
-        (8, b"STOP\n", 96, TraceReason::Keyword),
-        (6, b"TE 80 -\n", 70, TraceReason::Keyword),
-    ];
+/// The number of a line, what stands for it, and the byte of the line that is refused for that, and why.
+pub(crate) type Change<'a> = (usize, &'a [u8], u64, TraceReason);
+
+/// A text with one of these changes is refused so.
+pub(crate) fn are_refused(
+    rt: &impl Abort,
+    alloc: Global,
+    lines: &[(&[u8], usize)],
+    changes: &[Change<'_>],
+) -> Result<(), Fail> {
     for (number, line, byte, reason) in changes {
-        let want = TraceError::Text { byte, reason };
-        assert!(rt;
-            is_refused(rt.alloc(), &OLD_LINES, number, line, want)?,
+        let (byte, reason) = (*byte, *reason);
+        assert_eq!(rt;
+            refusal(alloc, lines, *number, line)?,
+            Some(TraceError::Text { byte, reason }),
             "line {number}"
         );
     }
     Ok(())
 }
 
+const CHANGED_LINES: &[Change<'static>] = &[
+    (0, b"TRACE 3\n", 0, TraceReason::Fields),
+    (4, b"TX  20 1\n", 38, TraceReason::Fields),
+    (4, b"TX 020 1\n", 38, TraceReason::Spelling),
+    (5, b"WS D0A111 D00001 D00010\n", 46, TraceReason::Spelling),
+    (7, b"WS L0B210 D00FF0\n", 79, TraceReason::Parity),
+    (6, b"TX 150 2\n", 70, TraceReason::Range),
+    (6, b"TX 20 1\n", 70, TraceReason::Order),
+    (3, b"HOLD 1 1\n", 29, TraceReason::Order),
+    (8, b"STOP\n", 96, TraceReason::Keyword),
+    (6, b"TE 80 -\n", 70, TraceReason::Keyword),
+];
+
+#[test]
+fn a_changed_line_is_refused_where_it_begins(rt: HostRuntime) -> Result<(), Fail> {
+    are_refused(&rt, rt.alloc(), &OLD_LINES, CHANGED_LINES)
+}
+
 #[test]
 fn a_long_line_is_refused_at_its_limit(rt: HostRuntime) -> Result<(), Fail> {
-    let alloc = rt.alloc();
-    let mut bytes = Vec::from_slice(alloc, b"TRACE 1\n")?;
-    bytes.extend_from_slice(&vec![in alloc; b'x'; 3000]?)?;
-    let mut source = MemorySource::new(bytes, 7, Vec::new(alloc));
+    let bytes = text_before(rt.alloc(), &[(b"TRACE 1\n", 0)], &[b'x'; 3000])?;
+    let mut source = MemorySource::new(bytes, 7, Vec::new(rt.alloc()));
     let want = TraceError::Text {
         byte: 8,
         reason: TraceReason::Long,
     };
-    assert!(rt; matches!(read_trace(alloc, &mut source), Err(error) if error == want));
+    assert_eq!(rt; read_trace(rt.alloc(), &mut source).err(), Some(want));
     // 1,802 bytes of the line were taken.
-    assert!(rt; matches!(&read_whole(alloc, &mut source, 3000), Ok(rest) if rest.len() == 1198));
+    let rest = read_whole(rt.alloc(), &mut source, 3000).expect(&rt, "the rest");
+    assert_eq!(rt; rest.len(), 1198);
     Ok(())
 }
 
 #[test]
 fn a_failed_pull_in_mid_stream_is_a_fault(rt: HostRuntime) -> Result<(), Fail> {
-    let alloc = rt.alloc();
-    let failing = Vec::from_slice(alloc, &[10])?;
-    let mut source = MemorySource::new(text_of(alloc, &LINES)?, 7, failing);
-    assert!(rt; matches!(read_trace(alloc, &mut source), Err(TraceError::ReadFault)));
+    let text = text_of(rt.alloc(), &LINES)?;
+    let mut source = MemorySource::new(text, 7, vec![in rt.alloc(); 10u64]?);
+    assert_eq!(rt;
+        read_trace(rt.alloc(), &mut source).err(),
+        Some(TraceError::ReadFault)
+    );
     Ok(())
 }
 
@@ -201,34 +234,38 @@ fn transmission(alloc: Global, moment: u64, terminal: u8) -> Result<Transmission
     let Some(string) = Wordstring::new(label, ext, words)? else {
         return Err(Fail::new("no wordstring"));
     };
-    let mut strings = Vec::new(alloc);
-    strings.push(string)?;
-    let Some(message) = Message::new(strings) else {
-        return Err(Fail::new("no message"));
-    };
     Ok(Transmission {
         moment,
         terminal,
-        message,
+        message: Message::one(alloc, string),
     })
+}
+
+/// Whether a trace can be made of a transmission at 20 and one at this moment.
+fn fits(alloc: Global, horizon: u64, second: u64) -> Result<bool, Fail>
+    requires second { second < horizon_limit }
+{
+    let mut list = vec![in alloc; transmission(alloc, 20, 1)?]?;
+    list.push(transmission(alloc, second, 1)?)?;
+    let holds = vec![in alloc;
+        Hold {
+            terminal: 1,
+            count: 2
+        },
+    ]?;
+    Ok(Trace::new(horizon, holds, list).is_some())
 }
 
 #[test]
 fn a_trace_is_made_where_it_ascends(rt: HostRuntime) -> Result<(), Fail> {
     let alloc = rt.alloc();
-    for (horizon, second, fits) in [(150, 110, true), (110, 110, false), (150, 20, false)] {
-        let holds = vec![in alloc; Hold {
-            terminal: 1,
-            count: 2
-        }; 1]?;
-        let mut list = Vec::new(alloc);
-        list.push(transmission(alloc, 20, 1)?)?;
-        list.push(transmission(alloc, second, 1)?)?;
-        assert_eq!(rt;
-            Trace::new(horizon, holds, list).is_some(),
-            fits,
-            "{horizon} {second}"
-        );
-    }
+    assert_eq!(rt;
+        [
+            fits(alloc, 150, 110)?,
+            fits(alloc, 110, 110)?,
+            fits(alloc, 150, 20)?,
+        ],
+        [true, false, false]
+    );
     Ok(())
 }
