@@ -98,8 +98,7 @@ fn has_none(
 ) -> Result<(), Fail> {
     match planned(rt, text, Some(d))? {
         CablePlan::Infeasible { least, ti } => {
-            assert_eq!(rt; least, told);
-            assert_eq!(rt; ti, interval);
+            assert_eq!(rt; (least, ti), (told, interval));
             Ok(())
         }
         _ => Err(Fail::from("no plan")),
@@ -138,8 +137,7 @@ fn has_neither(
 ) -> Result<(), Fail> {
     match planned(rt, text, d)? {
         CablePlan::Undecided { least, ti } => {
-            assert_eq!(rt; least, told);
-            assert_eq!(rt; ti, interval);
+            assert_eq!(rt; (least, ti), (told, interval));
             Ok(())
         }
         _ => Err(Fail::from("neither")),

@@ -1,23 +1,46 @@
 //! Cable texts that are read, and that are refused.
+ghost use Rattle.std.specs.Prelude.{◌≤◌};
+
 use bus_cable::{Cable, CableError, Named, read_cable, write_cable};
 use bus_outer::MemorySink;
-use bus_strings::Payloads;
 use bus_text::Reason;
+use std::alloc::{AllocError, Global};
+use std::process::Abort;
 use std::test::Fail;
 
 const WHOLE: &[u8] =
     b"CABLE 1\nPLACE 1 0\nPLACE 2 1024\nWAKE 1 4\nWAKE 128 1099511627775\nMSG 1 : 0000 0001\nMSG 2 : 00FF\n";
 
-/// Where a text is refused, and why.
-fn refusal(outcome: &Result<(Cable, Payloads), CableError>) -> Option<(u64, Reason)> {
-    match outcome {
-        Err(CableError::Text { line, reason }) => Some((*line, *reason)),
-        _ => None,
-    }
+/// How many items a text has.
+fn item_count(alloc: Global, text: &[u8]) -> Result<usize, CableError> {
+    let (_, payloads) = read_cable(alloc, text)?;
+    Ok(payloads.items.len())
+}
+
+/// That a text is refused at this line.
+const fn refused(line: u64, reason: Reason) -> Result<usize, CableError> {
+    Err(CableError::Text { line, reason })
+}
+
+/// What a text stands for is written as another one, in pieces of so many bytes.
+fn is_written_as(
+    rt: &impl Abort,
+    alloc: Global,
+    text: &[u8],
+    piece: usize,
+    written: &[u8],
+) -> Result<(), Fail>
+    requires { 1 ≤ piece }
+{
+    let (cable, payloads) = read_cable(alloc, text)?;
+    let mut sink = MemorySink::new(alloc, 200, piece, Vec::new(alloc))?;
+    assert!(rt; write_cable(&cable, &payloads, &mut sink).is_ok());
+    assert_eq!(rt; sink.bytes(), written);
+    Ok(())
 }
 
 #[test]
-fn places_wakes_and_items_are_read_and_written_back(rt: HostRuntime) -> Result<(), Fail> {
+fn places_wakes_and_items_are_read(rt: HostRuntime) -> Result<(), Fail> {
     let (cable, payloads) = read_cable(rt.alloc(), WHOLE)?;
     assert_eq!(rt;
         cable.places(),
@@ -34,131 +57,123 @@ fn places_wakes_and_items_are_read_and_written_back(rt: HostRuntime) -> Result<(
         .as_slice()
     );
     assert_eq!(rt;
-        (cable.place(1), cable.place(2), cable.place(3)),
-        (0, 1024, 0)
+        [cable.place(1), cable.place(2), cable.place(3)],
+        [0, 1024, 0]
     );
     assert_eq!(rt;
-        (cable.wake(1), cable.wake(2), cable.wake(128)),
-        (4, 0, 1_099_511_627_775)
+        [cable.wake(1), cable.wake(2), cable.wake(128)],
+        [4, 0, 1_099_511_627_775]
     );
     assert_eq!(rt; payloads.items.len(), 2);
-
-    let mut sink = MemorySink::new(rt.alloc(), 200, 7, Vec::new(rt.alloc()))?;
-    assert!(rt; write_cable(&cable, &payloads, &mut sink).is_ok());
-    assert_eq!(rt; sink.bytes(), WHOLE);
     Ok(())
+}
+
+#[test]
+fn places_wakes_and_items_are_written_back(rt: HostRuntime) -> Result<(), Fail> {
+    is_written_as(&rt, rt.alloc(), WHOLE, 7, WHOLE)
 }
 
 #[test]
 fn blanks_and_comments_are_skipped(rt: HostRuntime) -> Result<(), Fail> {
     let text = b"# a cable\n\n\tCABLE 1 \r\n  # PLACE\n PLACE\t2  5\nMSG 9 : : beef :";
-    let (cable, payloads) = read_cable(rt.alloc(), text)?;
-    let mut sink = MemorySink::new(rt.alloc(), 99, 99, Vec::new(rt.alloc()))?;
-    assert!(rt; write_cable(&cable, &payloads, &mut sink).is_ok());
-    assert_eq!(rt;
-        sink.bytes(),
-        b"CABLE 1\nPLACE 2 5\nMSG 9 : : BEEF :\n".as_slice()
-    );
-    Ok(())
+    let written = b"CABLE 1\nPLACE 2 5\nMSG 9 : : BEEF :\n";
+    is_written_as(&rt, rt.alloc(), text, 99, written)
 }
 
 #[test]
 fn a_text_may_end_behind_each_line_and_not_before_the_first(rt: HostRuntime) {
     let mut ends = 0u32;
     for end in 0..=WHOLE.len() {
-        let outcome = read_cable(rt.alloc(), &WHOLE[..end]);
-        if outcome.is_ok() {
-            ends = ends.saturating_add(1);
-        } else {
-            assert!(rt; refusal(&outcome).is_some());
+        match item_count(rt.alloc(), &WHOLE[..end]) {
+            Ok(_) => ends = ends.saturating_add(1),
+            Err(error) => assert!(rt; matches!(error, CableError::Text { .. })),
         }
     }
     // Behind the header with its line feed and without; PLACE 1 0 (2), PLACE 2 with one to four digits and its feed (5), WAKE 1 4 (2),
     // WAKE 128 with up to thirteen digits and its feed (14), MSG 1 : with a colon, and with each whole word, a blank or feed behind
     // it (6), and MSG 2 : with a colon, a blank, one word and its feed (4).
     assert_eq!(rt; ends, 2 + 2 + 5 + 2 + 14 + 6 + 4);
-    assert_eq!(rt;
-        refusal(&read_cable(rt.alloc(), b"")),
-        Some((1, Reason::Ended))
-    );
-    assert_eq!(rt;
-        refusal(&read_cable(rt.alloc(), b"\n# a\n \t\r")),
-        Some((4, Reason::Ended))
-    );
 }
 
 /// A text, its first wrong line, and the first reason there.
 type Case<'a> = (&'a [u8], u64, Reason);
 
-/// Of the first wrong line, where it is a header or a place, also one behind a wake.
+const HEADERS_AND_PLACES: [Case<'static>; 19] = [
+    (b"", 1, Reason::Ended),
+    (b"\n# a\n \t\r", 4, Reason::Ended),
+    (b"MESSAGES 1\n", 1, Reason::Keyword),
+    (b"\n\nCABLE 2\n", 3, Reason::Fields),
+    (b"CABLE 1 1\n", 1, Reason::Fields),
+    (b"CABLE\n", 1, Reason::Fields),
+    (b"CABLE 1\nCABLE 1\n", 2, Reason::Keyword),
+    (b"CABLE 1\nPLACE 1\n", 2, Reason::Fields),
+    (b"CABLE 1\nPLACE 01 x y\n", 2, Reason::Fields),
+    (b"CABLE 1\nPLACE 01 1\n", 2, Reason::Spelling),
+    (b"CABLE 1\nPLACE 999 x\n", 2, Reason::Spelling),
+    (b"CABLE 1\nPLACE 1 x\n", 2, Reason::Spelling),
+    (b"CABLE 1\nPLACE 0 1\n", 2, Reason::Range),
+    (b"CABLE 1\nPLACE 129 1\n", 2, Reason::Range),
+    (b"CABLE 1\nPLACE 1 1025\n", 2, Reason::Range),
+    (b"CABLE 1\nPLACE 18446744073709551617 1\n", 2, Reason::Range),
+    (b"CABLE 1\nPLACE 1 1\nPLACE 1 1\n", 3, Reason::Range),
+    (b"CABLE 1\nPLACE 2 1\nPLACE 1 1\n", 3, Reason::Range),
+    (b"CABLE 1\nWAKE 1 1\nPLACE 1 1\n", 3, Reason::Keyword),
+];
+
+/// Of the first wrong line, where it is a header or a place, also one behind a wake; a text without a header ends behind its lines.
 #[test]
 fn the_first_reason_of_a_wrong_header_or_place_is_told(rt: HostRuntime) {
-    let cases: [Case<'_>; 17] = [
-        (b"MESSAGES 1\n", 1, Reason::Keyword),
-        (b"\n\nCABLE 2\n", 3, Reason::Fields),
-        (b"CABLE 1 1\n", 1, Reason::Fields),
-        (b"CABLE\n", 1, Reason::Fields),
-        (b"CABLE 1\nCABLE 1\n", 2, Reason::Keyword),
-        (b"CABLE 1\nPLACE 1\n", 2, Reason::Fields),
-        (b"CABLE 1\nPLACE 01 x y\n", 2, Reason::Fields),
-        (b"CABLE 1\nPLACE 01 1\n", 2, Reason::Spelling),
-        (b"CABLE 1\nPLACE 999 x\n", 2, Reason::Spelling),
-        (b"CABLE 1\nPLACE 1 x\n", 2, Reason::Spelling),
-        (b"CABLE 1\nPLACE 0 1\n", 2, Reason::Range),
-        (b"CABLE 1\nPLACE 129 1\n", 2, Reason::Range),
-        (b"CABLE 1\nPLACE 1 1025\n", 2, Reason::Range),
-        (b"CABLE 1\nPLACE 18446744073709551617 1\n", 2, Reason::Range),
-        (b"CABLE 1\nPLACE 1 1\nPLACE 1 1\n", 3, Reason::Range),
-        (b"CABLE 1\nPLACE 2 1\nPLACE 1 1\n", 3, Reason::Range),
-        (b"CABLE 1\nWAKE 1 1\nPLACE 1 1\n", 3, Reason::Keyword),
-    ];
-    for (text, line, reason) in cases {
-        let outcome = read_cable(rt.alloc(), text);
-        assert_eq!(rt; refusal(&outcome), Some((line, reason)));
+    for (text, line, reason) in &HEADERS_AND_PLACES {
+        assert!(rt; item_count(rt.alloc(), text) == refused(*line, *reason));
     }
 }
+
+const WAKES_AND_ITEMS: [Case<'static>; 13] = [
+    (b"CABLE 1\nWAKE 1\n", 2, Reason::Fields),
+    (b"CABLE 1\nWAKE 1 1 1\n", 2, Reason::Fields),
+    (b"CABLE 1\nWAKE 1 -1\n", 2, Reason::Spelling),
+    (b"CABLE 1\nWAKE 0 1\n", 2, Reason::Range),
+    (b"CABLE 1\nWAKE 129 1\n", 2, Reason::Range),
+    (b"CABLE 1\nWAKE 2 1\nWAKE 1 1\n", 3, Reason::Range),
+    (b"CABLE 1\nWAKE 1 1099511627776\n", 2, Reason::Range),
+    (
+        b"CABLE 1\nPLACE 9 1\nWAKE 2 1\nWAKE 2 1\n",
+        4,
+        Reason::Range,
+    ),
+    (b"CABLE 1\nMSG 1 : 0000\nWAKE 1 1\n", 3, Reason::Keyword),
+    (b"CABLE 1\nMSG 1 : 0000\nPLACE 1 1\n", 3, Reason::Keyword),
+    (b"CABLE 1\nMSG 1 0000\n", 2, Reason::Fields),
+    (b"CABLE 1\nPLACE 1 1\nMSG 1 : 000\n", 3, Reason::Spelling),
+    (
+        b"CABLE 1\nWAKE 1 1\nMSG 129 :\nPLACE 1 1\n",
+        3,
+        Reason::Range,
+    ),
+];
 
 /// Of the first wrong line, where it is a wake or an item, or stands behind an item.
 #[test]
 fn the_first_reason_of_a_wrong_wake_or_item_is_told(rt: HostRuntime) {
-    let cases: [Case<'_>; 13] = [
-        (b"CABLE 1\nWAKE 1\n", 2, Reason::Fields),
-        (b"CABLE 1\nWAKE 1 1 1\n", 2, Reason::Fields),
-        (b"CABLE 1\nWAKE 1 -1\n", 2, Reason::Spelling),
-        (b"CABLE 1\nWAKE 0 1\n", 2, Reason::Range),
-        (b"CABLE 1\nWAKE 129 1\n", 2, Reason::Range),
-        (b"CABLE 1\nWAKE 2 1\nWAKE 1 1\n", 3, Reason::Range),
-        (b"CABLE 1\nWAKE 1 1099511627776\n", 2, Reason::Range),
-        (
-            b"CABLE 1\nPLACE 9 1\nWAKE 2 1\nWAKE 2 1\n",
-            4,
-            Reason::Range,
-        ),
-        (b"CABLE 1\nMSG 1 : 0000\nWAKE 1 1\n", 3, Reason::Keyword),
-        (b"CABLE 1\nMSG 1 : 0000\nPLACE 1 1\n", 3, Reason::Keyword),
-        (b"CABLE 1\nMSG 1 0000\n", 2, Reason::Fields),
-        (b"CABLE 1\nPLACE 1 1\nMSG 1 : 000\n", 3, Reason::Spelling),
-        (
-            b"CABLE 1\nWAKE 1 1\nMSG 129 :\nPLACE 1 1\n",
-            3,
-            Reason::Range,
-        ),
-    ];
-    for (text, line, reason) in cases {
-        let outcome = read_cable(rt.alloc(), text);
-        assert_eq!(rt; refusal(&outcome), Some((line, reason)));
+    for (text, line, reason) in &WAKES_AND_ITEMS {
+        assert!(rt; item_count(rt.alloc(), text) == refused(*line, *reason));
     }
+}
+
+/// Whether a cable has these places.
+fn has_places(alloc: Global, places: &[(u8, u64)]) -> Result<bool, AllocError> {
+    let mut named = Vec::new(alloc);
+    for (terminal, bits) in places {
+        let (terminal, bits) = (*terminal, *bits);
+        named.push(Named { terminal, bits })?;
+    }
+    Ok(Cable::new(named, Vec::new(alloc)).is_some())
 }
 
 #[test]
 fn a_cable_keeps_its_ranges(rt: HostRuntime) -> Result<(), Fail> {
-    let alloc = rt.alloc();
-    let at = |terminal, bits| Named { terminal, bits };
-    let places = Vec::from_slice(alloc, &[at(1, 0), at(3, 1024)])?;
-    assert!(rt; Cable::new(places, Vec::new(alloc)).is_some());
-    let falls = Vec::from_slice(alloc, &[at(3, 0), at(1, 0)])?;
-    assert!(rt; Cable::new(falls, Vec::new(alloc)).is_none());
-    let far = Vec::from_slice(alloc, &[at(1, 1025)])?;
-    assert!(rt; Cable::new(far, Vec::new(alloc)).is_none());
+    assert!(rt; has_places(rt.alloc(), &[(1, 0), (3, 1024)])?);
+    assert!(rt; !has_places(rt.alloc(), &[(3, 0), (1, 0)])?);
+    assert!(rt; !has_places(rt.alloc(), &[(1, 1025)])?);
     Ok(())
 }

@@ -4,9 +4,9 @@ ghost use Rattle.bus_table.specs.declared.mode.Mode.TheVariants.{Aperiodic};
 ghost use Rattle.bus_table.specs.Hands.{are_hands};
 ghost use Rattle.bus_dropout.specs.DropOut.{LastIsLong};
 
-use crate::shared::{starts_of, text_of};
+use crate::shared;
+use crate::shared::{starts_are, text_of};
 use bus_dropout::{drop_end, last_cycle, run_dropout};
-use bus_hands::{fits, hands};
 use bus_strings::read_messages;
 use bus_table::{Hand, Mode, Table, read_table};
 use std::alloc::{AllocError, Global};
@@ -59,59 +59,67 @@ SENDER 1 TG 10
 SEND 0A1 1 0 9
 ";
 
-/// How many messages without data words the three senders have, when who starts, and the end.
-type Case = ([u8; 3], &'static [(u64, u8)], u64);
+/// What a drop-out schedule shows: when who starts, and its end.
+type Shown<'a> = (&'a [(u64, u8)], u128);
+
+/// How many messages without data words the three senders have, and what is shown.
+type Case = ([u8; 3], Shown<'static>);
 
 /// Senders that are spent in every order, one without a message, one that goes on alone, and none that has any.
 const CASES: [Case; 9] = [
     (
         [1, 2, 3],
-        &[(10, 1), (50, 2), (100, 3), (1140, 2), (1190, 3), (2240, 3)],
-        2260,
+        (
+            &[(10, 1), (50, 2), (100, 3), (1140, 2), (1190, 3), (2240, 3)],
+            2260,
+        ),
     ),
     (
         [1, 3, 2],
-        &[(10, 1), (50, 2), (100, 3), (1140, 2), (1190, 3), (2230, 2)],
-        2250,
+        (
+            &[(10, 1), (50, 2), (100, 3), (1140, 2), (1190, 3), (2230, 2)],
+            2250,
+        ),
     ),
     (
         [2, 1, 3],
-        &[(10, 1), (50, 2), (100, 3), (1130, 1), (1180, 3), (2230, 3)],
-        2250,
+        (
+            &[(10, 1), (50, 2), (100, 3), (1130, 1), (1180, 3), (2230, 3)],
+            2250,
+        ),
     ),
     (
         [2, 3, 1],
-        &[(10, 1), (50, 2), (100, 3), (1130, 1), (1170, 2), (2210, 2)],
-        2230,
+        (
+            &[(10, 1), (50, 2), (100, 3), (1130, 1), (1170, 2), (2210, 2)],
+            2230,
+        ),
     ),
     (
         [3, 1, 2],
-        &[(10, 1), (50, 2), (100, 3), (1130, 1), (1180, 3), (2210, 1)],
-        2230,
+        (
+            &[(10, 1), (50, 2), (100, 3), (1130, 1), (1180, 3), (2210, 1)],
+            2230,
+        ),
     ),
     (
         [3, 2, 1],
-        &[(10, 1), (50, 2), (100, 3), (1130, 1), (1170, 2), (2200, 1)],
-        2220,
+        (
+            &[(10, 1), (50, 2), (100, 3), (1130, 1), (1170, 2), (2200, 1)],
+            2220,
+        ),
     ),
-    ([0, 2, 1], &[(20, 2), (70, 3), (1110, 2)], 1130),
-    ([2, 0, 0], &[(10, 1), (1040, 1)], 1060),
-    ([0, 0, 0], &[], 0),
+    ([0, 2, 1], (&[(20, 2), (70, 3), (1110, 2)], 1130)),
+    ([2, 0, 0], (&[(10, 1), (1040, 1)], 1060)),
+    ([0, 0, 0], (&[], 0)),
 ];
 
 /// The hands of these items.
-fn dealt(
-    rt: &impl Abort,
-    alloc: Global,
-    table: &Table,
-    items: &[(u8, usize)],
-) -> Result<Vec<Hand>, Fail>
+fn dealt(alloc: Global, table: &Table, items: &[(u8, usize)]) -> Result<Vec<Hand>, Fail>
     ensures { IfOk result (λ hands. IsTrue (are_hands table.now.senders hands.items)) }
 {
     let payloads = read_messages(alloc, text_of(alloc, items)?.as_bytes())?;
-    assert!(rt; fits(table, &payloads).is_ok());
-    let hands = hands(alloc, table, payloads)?;
-    Ok(hands)
+    shared::dealt(alloc, table, payloads)
 }
 
 /// An aperiodic table.
@@ -135,36 +143,54 @@ fn last_is_long(table: &Table, hands: &[Hand]) -> bool
     }
 }
 
-#[test]
-fn the_last_sender_goes_on_alone(rt: HostRuntime) -> Result<(), Fail> {
-    let alloc = rt.alloc();
-    let table = aperiodic(&rt, alloc, TWO_SENDERS)?;
-    let hands = dealt(&rt, alloc, &table, &[(1, 2), (2, 1), (1, 2)])?;
-    assert_eq!(rt; last_cycle(&table, &hands), Some(1080));
-    assert_eq!(rt; drop_end(&table, &hands), 1230);
+/// The drop-out schedule of an aperiodic table with these items shows this, and its last cycle, where there is one, is long enough.
+fn shows(
+    rt: &impl Abort,
+    alloc: Global,
+    table: &[u8],
+    items: &[(u8, usize)],
+    shown: Shown<'_>,
+) -> Result<(), Fail> {
+    let table = aperiodic(rt, alloc, table)?;
+    let hands = dealt(alloc, &table, items)?;
+    let (starts, end) = shown;
+    assert_eq!(rt; drop_end(&table, &hands), end);
     assert!(rt; last_is_long(&table, &hands));
     let list = run_dropout(alloc, &table, hands)?;
-    assert!(rt; starts_of(alloc, &list)?.as_slice() == [(20, 1), (110, 2), (1170, 1)].as_slice());
+    assert!(rt; starts_are(&list, starts));
     Ok(())
 }
 
-/// The second sender goes on alone with a short message and a long one, in either order: how many words the first has, and when the second
-/// starts.
-const LENGTHS: [(usize, u64); 2] = [(30, 1150), (40, 1350)];
+/// The last cycle of an aperiodic table with these items, and whether it is long enough.
+fn last(
+    rt: &impl Abort,
+    alloc: Global,
+    table: &[u8],
+    items: &[(u8, usize)],
+) -> Result<(Option<u64>, bool), Fail> {
+    let table = aperiodic(rt, alloc, table)?;
+    let hands = dealt(alloc, &table, items)?;
+    Ok((last_cycle(&table, &hands), last_is_long(&table, &hands)))
+}
 
 #[test]
+fn the_last_sender_goes_on_alone(rt: HostRuntime) -> Result<(), Fail> {
+    let items = [(1, 2), (2, 1), (1, 2)];
+    let last = last(&rt, rt.alloc(), TWO_SENDERS, &items)?;
+    assert_eq!(rt; last, (Some(1080), true));
+    let shown: Shown<'_> = (&[(20, 1), (110, 2), (1170, 1)], 1230);
+    shows(&rt, rt.alloc(), TWO_SENDERS, &items, shown)
+}
+
+/// The second sender goes on alone with a short message and a long one, in either order: how many words each has, and when it starts again.
+#[test]
 fn a_last_cycle_of_just_the_interval_is_run(rt: HostRuntime) -> Result<(), Fail> {
-    let alloc = rt.alloc();
-    let table = aperiodic(&rt, alloc, JUST_THE_INTERVAL)?;
-    for (words, again) in &LENGTHS {
-        let hands = dealt(&rt, alloc, &table, &[(1, 4), (2, *words), (2, 70 - *words)])?;
-        assert_eq!(rt; last_cycle(&table, &hands), Some(1000));
-        assert_eq!(rt; drop_end(&table, &hands), 1970);
-        assert!(rt; last_is_long(&table, &hands));
-        let list = run_dropout(alloc, &table, hands)?;
-        assert!(rt;
-            starts_of(alloc, &list)?.as_slice() == [(20, 1), (150, 2), (*again, 2)].as_slice()
-        );
+    for (first, second, again) in [(30, 40, 1150), (40, 30, 1350)] {
+        let items = [(1, 4), (2, first), (2, second)];
+        let last = last(&rt, rt.alloc(), JUST_THE_INTERVAL, &items)?;
+        assert_eq!(rt; last, (Some(1000), true));
+        let shown: Shown<'_> = (&[(20, 1), (150, 2), (again, 2)], 1970);
+        shows(&rt, rt.alloc(), JUST_THE_INTERVAL, &items, shown)?;
     }
     Ok(())
 }
@@ -184,14 +210,9 @@ fn items(alloc: Global, counts: &[u8; 3]) -> Result<Vec<(u8, usize)>, AllocError
 
 #[test]
 fn senders_fall_silent_in_every_order(rt: HostRuntime) -> Result<(), Fail> {
-    let alloc = rt.alloc();
-    let table = aperiodic(&rt, alloc, THREE_SENDERS)?;
-    for (counts, starts_at, end) in &CASES {
-        let hands = dealt(&rt, alloc, &table, &items(alloc, counts)?)?;
-        assert!(rt; drop_end(&table, &hands) == u128::from(*end));
-        assert!(rt; last_is_long(&table, &hands));
-        let list = run_dropout(alloc, &table, hands)?;
-        assert!(rt; starts_of(alloc, &list)?.as_slice() == *starts_at);
+    for (counts, shown) in &CASES {
+        let items = items(rt.alloc(), counts)?;
+        shows(&rt, rt.alloc(), THREE_SENDERS, &items, *shown)?;
     }
     Ok(())
 }
@@ -200,12 +221,9 @@ fn senders_fall_silent_in_every_order(rt: HostRuntime) -> Result<(), Fail> {
 /// has none.
 #[test]
 fn the_last_cycle_is_that_of_the_senders_that_go_on(rt: HostRuntime) -> Result<(), Fail> {
-    let alloc = rt.alloc();
-    let table = aperiodic(&rt, alloc, SHORT_GAP)?;
-    let one_alone = dealt(&rt, alloc, &table, &[(1, 4), (2, 40), (2, 40)])?;
-    assert_eq!(rt; last_cycle(&table, &one_alone), Some(950));
-    assert!(rt; !last_is_long(&table, &one_alone));
-    let one_round = dealt(&rt, alloc, &table, &[(1, 4), (2, 40)])?;
-    assert_eq!(rt; last_cycle(&table, &one_round), None);
+    let one_alone = last(&rt, rt.alloc(), SHORT_GAP, &[(1, 4), (2, 40), (2, 40)])?;
+    assert_eq!(rt; one_alone, (Some(950), false));
+    let one_round = last(&rt, rt.alloc(), SHORT_GAP, &[(1, 4), (2, 40)])?;
+    assert_eq!(rt; one_round, (None, true));
     Ok(())
 }

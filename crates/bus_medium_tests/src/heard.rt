@@ -1,7 +1,8 @@
 //! What is heard of senders on cables that they bear, on one that is too long by one bit time, and at the ends of a run.
-use bus_cable::{observe_on, read_cable, write_heard};
-use bus_hands::{fits, hands};
+use crate::shared::dealt;
+use bus_cable::{Cable, observe_on, read_cable, write_heard};
 use bus_outer::MemorySink;
+use bus_strings::Payloads;
 use bus_table::read_table;
 use std::alloc::Global;
 use std::process::Abort;
@@ -43,6 +44,15 @@ const TWO_ROUNDS: [&str; 10] = [
     "\n",
 ];
 
+/// The cable of a text that begins so, and these items with which it goes on.
+fn cable_of(alloc: Global, head: &[u8], items: &[&str]) -> Result<(Cable, Payloads), Fail> {
+    let mut text = Vec::from_slice(alloc, head)?;
+    for item in items {
+        text.extend_from_slice(item.as_bytes())?;
+    }
+    Ok(read_cable(alloc, &text)?)
+}
+
 /// On a cable whose text begins so and goes on with these items the table's senders start at these moments before 3000, and this is heard.
 fn shows(
     rt: &impl Abort,
@@ -52,22 +62,11 @@ fn shows(
     starts: &[u64],
     heard: &[u8],
 ) -> Result<(), Fail> {
-    let mut text = Vec::from_slice(alloc, head)?;
-    for item in items {
-        text.extend_from_slice(item.as_bytes())?;
-    }
     let table = read_table(alloc, table)?;
-    let (cable, items) = read_cable(alloc, &text)?;
-    if fits(&table, &items).is_err() {
-        return Err(Fail::new("an item that doesn't fit"));
-    }
-    let hands = hands(alloc, &table, items)?;
+    let (cable, items) = cable_of(alloc, head, items)?;
+    let hands = dealt(alloc, &table, items)?;
     let list = observe_on(alloc, &table, &cable, hands, 3000)?;
-    let mut moments = Vec::new(alloc);
-    for x in &list {
-        moments.push(x.moment)?;
-    }
-    assert_eq!(rt; moments.as_slice(), starts);
+    assert!(rt; list.iter().map(|x| x.moment).eq(starts.iter().copied()));
     let mut sink = MemorySink::new(alloc, 400, 400, Vec::new(alloc))?;
     assert!(rt; write_heard(&table, &cable, &list, &mut sink).is_ok());
     assert_eq!(rt; sink.bytes(), heard);

@@ -2,8 +2,7 @@
 ghost use Rattle.std.specs.Prelude.{IfOk, IsTrue};
 ghost use Rattle.bus_table.specs.Hands.{are_hands};
 
-use crate::shared::starts_of;
-use bus_hands::{fits, hands};
+use crate::shared::{dealt, starts_of};
 use bus_medium::{Bus, OBSERVE_LIMIT, quiet, timing};
 use bus_strings::limits::HORIZON_LIMIT;
 use bus_strings::{is_on, read_messages};
@@ -79,10 +78,7 @@ fn hands_of(alloc: Global, table: &Table, items: &[Item<'_>]) -> Result<Vec<Hand
     ensures { IfOk result (λ hands. IsTrue (are_hands table.now.senders hands.items)) }
 {
     let payloads = read_messages(alloc, text(alloc, items)?.as_bytes())?;
-    if fits(table, &payloads).is_err() {
-        return Err("fitting items".into());
-    }
-    Ok(hands(alloc, table, payloads)?)
+    dealt(alloc, table, payloads)
 }
 
 /// The starts that the bus gives, bit time for bit time.
@@ -205,22 +201,23 @@ fn two_periodic(alloc: Global, first_at: u32, second_at: u32) -> Result<Table, F
 
 const TWO_ROUNDS: [Item<'static>; 4] = [(1, &[2]), (2, &[30]), (1, &[2]), (2, &[30])];
 
+const TURNS: [Run<'static>; 6] = [
+    (1760, &[(20, 1), (110, 2), (1050, 1), (1140, 2)], 9),
+    (0, &[], 1),
+    (80, &[(20, 1)], 2),
+    (60, &[(20, 1)], 2),
+    (110, &[(20, 1)], 3),
+    (111, &[(20, 1), (110, 2)], 4),
+];
+
 /// Longer messages of the first round delay the second. The horizon itself has no start; it lies at the settled start,
 /// where a message ends, inside a message, and at the start of another.
 #[test]
 fn messages_of_an_aperiodic_table_take_turns(rt: HostRuntime) -> Result<(), Fail> {
     let alloc = rt.alloc();
     let table = two_senders(alloc, 1000, 300)?;
-    let to: [Run<'_>; 6] = [
-        (1760, &[(20, 1), (110, 2), (1050, 1), (1140, 2)], 9),
-        (0, &[], 1),
-        (80, &[(20, 1)], 2),
-        (60, &[(20, 1)], 2),
-        (110, &[(20, 1)], 3),
-        (111, &[(20, 1), (110, 2)], 4),
-    ];
-    for run in to {
-        runs(&rt, alloc, &table, &TWO_ROUNDS, run)?;
+    for run in &TURNS {
+        runs(&rt, alloc, &table, &TWO_ROUNDS, *run)?;
     }
     let longer: [Item<'_>; 4] = [(1, &[4]), (2, &[40]), (1, &[2]), (2, &[30])];
     runs(
@@ -263,6 +260,13 @@ fn the_interval_delays_a_short_cycle(rt: HostRuntime) -> Result<(), Fail> {
     )
 }
 
+const INNER_QUIET: [Run<'static>; 4] = [
+    (541, &[(8, 1), (121, 2)], 6),
+    (48, &[(8, 1)], 2),
+    (50, &[(8, 1)], 3),
+    (52, &[(8, 1)], 3),
+];
+
 /// Bit times 48 to 51 are quiet inside the first message, and nobody starts there. The horizon lies at both ends of
 /// that quiet, and inside it.
 #[test]
@@ -271,14 +275,8 @@ fn quiet_within_a_message_is_no_gap(rt: HostRuntime) -> Result<(), Fail> {
     let lines: [Line<'_>; 2] = [(1, 8, 0, &[(1, 1), (2, 2)]), (2, 9, 0, &[(20, 20)])];
     let table = table(alloc, Mode::Aperiodic, 1000, 500, &lines)?.ok_or("a valid table")?;
     let items: [Item<'_>; 2] = [(1, &[1, 2]), (2, &[20])];
-    let to: [Run<'_>; 4] = [
-        (541, &[(8, 1), (121, 2)], 6),
-        (48, &[(8, 1)], 2),
-        (50, &[(8, 1)], 3),
-        (52, &[(8, 1)], 3),
-    ];
-    for run in to {
-        runs(&rt, alloc, &table, &items, run)?;
+    for run in &INNER_QUIET {
+        runs(&rt, alloc, &table, &items, *run)?;
     }
     Ok(())
 }

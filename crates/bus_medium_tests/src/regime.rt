@@ -91,25 +91,38 @@ fn cycles_of_an_aperiodic_table(rt: HostRuntime) -> Result<(), Fail> {
     )
 }
 
+const GAPS: [(u32, u32, u16, &[u8]); 8] = [
+    (2000, 90, 30, b"ACCEPT periodic 2000 2000\n"),
+    (2000, 89, 30, b"REFUSE small-gap 2 29 30\n"),
+    (2000, 59, 30, b"REFUSE small-gap 2 -1 30\n"),
+    (2000, 0, 30, b"REFUSE small-gap 2 -60 30\n"),
+    (1030, 90, 30, b"ACCEPT periodic 1030 1030\n"),
+    (1029, 90, 30, b"REFUSE no-sync 1 319 320\n"),
+    (1230, 90, 40, b"ACCEPT periodic 1230 1230\n"),
+    (1229, 90, 40, b"REFUSE no-sync 1 319 320\n"),
+];
+
 /// The gap before terminal 2 is its offset less 60, and the one before terminal 1 goes over the end of the interval.
 #[test]
 fn gaps_of_a_periodic_table(rt: HostRuntime) -> Result<(), Fail> {
     let alloc = rt.alloc();
-    let rows: [(u32, u32, u16, &[u8]); 8] = [
-        (2000, 90, 30, b"ACCEPT periodic 2000 2000\n"),
-        (2000, 89, 30, b"REFUSE small-gap 2 29 30\n"),
-        (2000, 59, 30, b"REFUSE small-gap 2 -1 30\n"),
-        (2000, 0, 30, b"REFUSE small-gap 2 -60 30\n"),
-        (1030, 90, 30, b"ACCEPT periodic 1030 1030\n"),
-        (1029, 90, 30, b"REFUSE no-sync 1 319 320\n"),
-        (1230, 90, 40, b"ACCEPT periodic 1230 1230\n"),
-        (1229, 90, 40, b"REFUSE no-sync 1 319 320\n"),
-    ];
-    for (ti, at, most, line) in rows {
-        let table = two_senders(&rt, alloc, Mode::Periodic, ti, at, most)?;
+    for (ti, at, most, line) in &GAPS {
+        let table = two_senders(&rt, alloc, Mode::Periodic, *ti, *at, *most)?;
         has_line(&rt, alloc, &verdict(&table), line)?;
     }
     Ok(())
+}
+
+/// The witness of two senders with at most 40 data words.
+fn witness_of(
+    rt: &impl Abort,
+    alloc: Global,
+    mode: Mode,
+    ti: u32,
+    at: u32,
+) -> Result<Payloads, Fail> {
+    let table = two_senders(rt, alloc, mode, ti, at, 40)?;
+    Ok(witness(alloc, &table)?)
 }
 
 /// How many data words the first wordstring of the last item has.
@@ -118,17 +131,19 @@ fn last_words(witness: &Payloads) -> Option<usize> {
     Some(item.strings.first()?.len())
 }
 
-/// Two rounds in the order of the table, the least words in aperiodic mode and the most in periodic mode, also where the table is
-/// refused.
+/// Two rounds in the order of the table, the least words in aperiodic mode, also where the table is refused.
 #[test]
-fn witnesses_by_mode(rt: HostRuntime) -> Result<(), Fail> {
-    let alloc = rt.alloc();
-    let table = two_senders(&rt, alloc, Mode::Aperiodic, 1031, 0, 40)?;
-    let shortest = witness(alloc, &table)?;
-    let terminals: Vec<u8> = shortest.items.iter().map(|x| x.terminal).collect(alloc)?;
-    assert_eq!(rt; terminals.as_slice(), [1, 2, 1, 2].as_slice());
+fn the_witness_of_an_aperiodic_table(rt: HostRuntime) -> Result<(), Fail> {
+    let shortest = witness_of(&rt, rt.alloc(), Mode::Aperiodic, 1031, 0)?;
+    assert!(rt; shortest.items.iter().map(|x| x.terminal).eq([1, 2, 1, 2]));
     assert_eq!(rt; last_words(&shortest), Some(30));
-    let table = two_senders(&rt, alloc, Mode::Periodic, 2000, 59, 40)?;
-    assert_eq!(rt; last_words(&witness(alloc, &table)?), Some(40));
+    Ok(())
+}
+
+/// The most words in periodic mode, also where the table is refused.
+#[test]
+fn the_witness_of_a_periodic_table(rt: HostRuntime) -> Result<(), Fail> {
+    let longest = witness_of(&rt, rt.alloc(), Mode::Periodic, 2000, 59)?;
+    assert_eq!(rt; last_words(&longest), Some(40));
     Ok(())
 }

@@ -2,8 +2,7 @@
 ghost use Rattle.std.specs.Prelude.{IfOk, IsTrue};
 ghost use Rattle.bus_schedule.specs.Even.{are_even};
 
-use crate::shared::{starts_of, text_of};
-use bus_hands::{fits, hands};
+use crate::shared::{dealt, starts_are, text_of};
 use bus_regime::verdict;
 use bus_schedule::{ScheduleError, closed, closed_end, find_uneven, run_settled};
 use bus_strings::read_messages;
@@ -79,8 +78,7 @@ fn even_hands(
     ensures { IfOk result (λ hands. IsTrue (are_even table.now hands.items)) }
 {
     let payloads = read_messages(alloc, text_of(alloc, items)?.as_bytes())?;
-    assert!(rt; fits(table, &payloads).is_ok());
-    let hands = hands(alloc, table, payloads)?;
+    let hands = dealt(alloc, table, payloads)?;
     assert!(rt; find_uneven(table, &hands).is_none());
     Ok(hands)
 }
@@ -90,77 +88,72 @@ fn label_words(alloc: Global, count: usize) -> Result<Vec<(u8, usize)>, AllocErr
     vec![in alloc; (1, 0); count]
 }
 
+/// What a schedule shows: when who starts, and its end.
+type Shown<'a> = (&'a [(u64, u8)], u128);
+
+/// The closed schedule of two rounds of a table, accepted or not, shows this.
+fn has_schedule(
+    rt: &impl Abort,
+    alloc: Global,
+    table: &[u8],
+    accepted: bool,
+    shown: Shown<'_>,
+) -> Result<(), Fail> {
+    let table = read_table(alloc, table)?;
+    assert_eq!(rt; verdict(&table).is_accepted(), accepted);
+    let hands = even_hands(rt, alloc, &table, &TWO_ROUNDS)?;
+    let (starts, end) = shown;
+    assert_eq!(rt; closed_end(&table, &hands), end);
+    let list = closed(alloc, &table, &hands)?;
+    assert!(rt; starts_are(&list, starts));
+    Ok(())
+}
+
 #[test]
 fn two_rounds_are_laid_by_gaps_and_messages(rt: HostRuntime) -> Result<(), Fail> {
-    let alloc = rt.alloc();
-    let table = read_table(alloc, TWO_SENDERS)?;
-    let hands = even_hands(&rt, alloc, &table, &TWO_ROUNDS)?;
-    let list = closed(alloc, &table, &hands)?;
-    assert_eq!(rt;
-        starts_of(alloc, &list)?.as_slice(),
-        [(20, 1), (110, 2), (1050, 1), (1140, 2)].as_slice()
-    );
-    assert_eq!(rt; closed_end(&table, &hands), 1760);
+    let shown: Shown<'_> = (&[(20, 1), (110, 2), (1050, 1), (1140, 2)], 1760);
+    has_schedule(&rt, rt.alloc(), TWO_SENDERS, true, shown)
+}
+
+/// The bus of an accepted table runs so with these items.
+fn runs(
+    rt: &impl Abort,
+    alloc: Global,
+    table: &[u8],
+    items: &[(u8, usize)],
+    (starts, end): (&[(u64, u8)], u64),
+) -> Result<(), Fail> {
+    let table = read_table(alloc, table)?;
+    let hands = even_hands(rt, alloc, &table, items)?;
+    assert!(rt; verdict(&table).is_accepted());
+    let ran = run_settled::<DeadlineCore>(alloc, &table, hands)?;
+    assert!(rt; starts_are(&ran.list, starts));
+    assert_eq!(rt; ran.end, end);
     Ok(())
 }
 
 #[test]
 fn the_bus_runs_as_the_schedule_says(rt: HostRuntime) -> Result<(), Fail> {
-    let alloc = rt.alloc();
-    let table = read_table(alloc, TWO_SENDERS)?;
-    let hands = even_hands(&rt, alloc, &table, &TWO_ROUNDS)?;
-    assert!(rt; verdict(&table).is_accepted());
-    let ran = run_settled::<DeadlineCore>(alloc, &table, hands)?;
-    assert_eq!(rt;
-        starts_of(alloc, &ran.list)?.as_slice(),
-        [(20, 1), (110, 2), (1050, 1), (1140, 2)].as_slice()
-    );
-    assert_eq!(rt; ran.end, 1760);
-    Ok(())
+    let starts = [(20, 1), (110, 2), (1050, 1), (1140, 2)];
+    runs(&rt, rt.alloc(), TWO_SENDERS, &TWO_ROUNDS, (&starts, 1760))
 }
 
 /// The second message of terminal 2 is longer than its first, which moves no start.
 #[test]
 fn a_periodic_bus_starts_at_its_offsets(rt: HostRuntime) -> Result<(), Fail> {
-    let alloc = rt.alloc();
-    let table = read_table(alloc, TWO_OFFSETS)?;
-    let hands = even_hands(&rt, alloc, &table, &[(1, 2), (2, 30), (1, 2), (2, 40)])?;
-    assert!(rt; verdict(&table).is_accepted());
-    let ran = run_settled::<DeadlineCore>(alloc, &table, hands)?;
-    assert_eq!(rt;
-        starts_of(alloc, &ran.list)?.as_slice(),
-        [(0, 1), (90, 2), (2000, 1), (2090, 2)].as_slice()
-    );
-    assert_eq!(rt; ran.end, 2910);
-    Ok(())
-}
-
-/// The closed schedule of a refused table.
-fn refused_starts(
-    rt: &impl Abort,
-    alloc: Global,
-    table: &[u8],
-    starts_at: &[(u64, u8)],
-    end: u128,
-) -> Result<(), Fail> {
-    let table = read_table(alloc, table)?;
-    assert!(rt; !verdict(&table).is_accepted());
-    let hands = even_hands(rt, alloc, &table, &TWO_ROUNDS)?;
-    let list = closed(alloc, &table, &hands)?;
-    assert!(rt; starts_of(alloc, &list)?.as_slice() == starts_at);
-    assert_eq!(rt; closed_end(&table, &hands), end);
-    Ok(())
+    let items = [(1, 2), (2, 30), (1, 2), (2, 40)];
+    let starts = [(0, 1), (90, 2), (2000, 1), (2090, 2)];
+    runs(&rt, rt.alloc(), TWO_OFFSETS, &items, (&starts, 2910))
 }
 
 /// A refused table has a closed schedule too, in which senders at the same offset stand by number, and which doesn't look at
 /// an interval that is longer than the shortest cycle.
 #[test]
 fn a_refused_table_has_a_schedule(rt: HostRuntime) -> Result<(), Fail> {
-    let alloc = rt.alloc();
-    let together = [(0, 1), (0, 2), (2000, 1), (2000, 2)];
-    refused_starts(&rt, alloc, SAME_OFFSET, &together, 2620)?;
-    let turns = [(20, 1), (110, 2), (1050, 1), (1140, 2)];
-    refused_starts(&rt, alloc, SHORT_CYCLE, &turns, 1760)
+    let together: Shown<'_> = (&[(0, 1), (0, 2), (2000, 1), (2000, 2)], 2620);
+    has_schedule(&rt, rt.alloc(), SAME_OFFSET, false, together)?;
+    let turns: Shown<'_> = (&[(20, 1), (110, 2), (1050, 1), (1140, 2)], 1760);
+    has_schedule(&rt, rt.alloc(), SHORT_CYCLE, false, turns)
 }
 
 /// 536,872 messages of `ONE_SENDER` end behind the limit.

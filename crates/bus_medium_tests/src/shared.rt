@@ -1,8 +1,12 @@
 //! What the tests of several crates make and look at.
+ghost use Rattle.std.specs.Prelude.{IfOk, IsTrue};
+ghost use Rattle.bus_table.specs.Hands.{are_hands};
+
+use bus_hands::{fits, hands};
 use bus_reach::{bears, tolerance};
 use bus_regime::verdict;
-use bus_strings::Transmission;
-use bus_table::read_table;
+use bus_strings::{Payloads, Transmission};
+use bus_table::{Hand, Table, read_table};
 use std::alloc::{AllocError, Global};
 use std::process::Abort;
 use std::test::Fail;
@@ -26,6 +30,23 @@ pub(crate) fn starts_of(
     list: &[Transmission],
 ) -> Result<Vec<(u64, u8)>, AllocError> {
     list.iter().map(|x| (x.moment, x.terminal)).collect(alloc)
+}
+
+/// Whether a list has these starts: moments and terminals.
+pub(crate) fn starts_are(list: &[Transmission], expected: &[(u64, u8)]) -> bool {
+    list.iter()
+        .map(|x| (x.moment, x.terminal))
+        .eq(expected.iter().copied())
+}
+
+/// The hands that these items give, where they fit.
+pub(crate) fn dealt(alloc: Global, table: &Table, items: Payloads) -> Result<Vec<Hand>, Fail>
+    ensures { IfOk result (λ hands. IsTrue (are_hands table.now.senders hands.items)) }
+{
+    if fits(table, &items).is_err() {
+        return Err("fitting items".into());
+    }
+    Ok(hands(alloc, table, items)?)
 }
 
 /// A table that the verdict accepts bears just this much delay, or any.

@@ -21,18 +21,24 @@ fn message(alloc: Global) -> Result<Message, Fail> {
     Ok(Message::new(strings).ok_or("message")?)
 }
 
+/// A hand of two such messages.
+fn hand(alloc: Global) -> Result<Hand, Fail> {
+    let mut messages = Vec::new(alloc);
+    for _ in 0..2 {
+        messages.push(message(alloc)?)?;
+    }
+    Ok(Hand {
+        terminal: 7,
+        messages,
+    })
+}
+
 /// The first start comes a terminal gap behind the settled start, and the second when the transmit interval has
 /// elapsed. In between the terminal has exactly the pulses of its message.
 #[test]
 fn a_terminal_alone_sends_its_messages(rt: HostRuntime) -> Result<(), Fail> {
     let alloc = rt.alloc();
-    let mut messages = Vec::new(alloc);
-    messages.push(message(alloc)?)?;
-    messages.push(message(alloc)?)?;
-    let hand = Hand {
-        terminal: 7,
-        messages,
-    };
+    let hand = hand(alloc)?;
     let timing = Timing {
         ti: 1000,
         sg: 300,
@@ -83,13 +89,7 @@ fn next_change<C: JumpCore>(terminal: &mut Terminal<C>) -> Option<u64>
 #[test]
 fn a_terminal_alone_jumps_from_change_to_change(rt: HostRuntime) -> Result<(), Fail> {
     let alloc = rt.alloc();
-    let mut messages = Vec::new(alloc);
-    messages.push(message(alloc)?)?;
-    messages.push(message(alloc)?)?;
-    let hand = Hand {
-        terminal: 7,
-        messages,
-    };
+    let hand = hand(alloc)?;
     let timing = Timing {
         ti: 1000,
         sg: 300,
@@ -113,16 +113,14 @@ fn a_terminal_alone_jumps_from_change_to_change(rt: HostRuntime) -> Result<(), F
         next_change(&mut terminal),
     ];
     assert_eq!(rt; second, [Some(896), Some(40), Some(4), Some(60), None]);
-    assert_eq!(rt; terminal.sent(), 2);
-    assert_eq!(rt; terminal.moves(), 8);
+    assert_eq!(rt; (terminal.sent(), terminal.moves()), (2, 8));
     Ok(())
 }
 
 #[test]
 fn a_terminal_shows_its_messages(rt: HostRuntime) -> Result<(), Fail> {
     let alloc = rt.alloc();
-    let mut messages = Vec::new(alloc);
-    messages.push(message(alloc)?)?;
+    let messages = vec![in alloc; message(alloc)?]?;
     let hand = Hand {
         terminal: 128,
         messages,
@@ -135,7 +133,6 @@ fn a_terminal_shows_its_messages(rt: HostRuntime) -> Result<(), Fail> {
         due: 0,
     };
     let terminal = Terminal::new(CounterCore::settled(timing), hand);
-    assert_eq!(rt; terminal.number(), 128);
-    assert_eq!(rt; bits(terminal.message(0)), 104);
+    assert_eq!(rt; (terminal.number(), bits(terminal.message(0))), (128, 104));
     Ok(())
 }

@@ -1,5 +1,6 @@
 //! What is made is accepted, and the rows are there.
 use bus_hands::fits;
+use bus_strings::{Message, Payload};
 use bus_vectors::{make, make_hands, row};
 use std::test::Fail;
 
@@ -7,45 +8,68 @@ use std::test::Fail;
 #[test]
 fn makes_the_least_input(rt: HostRuntime) -> Result<(), Fail> {
     let (table, payloads) = make(rt.alloc(), 0)?;
-    assert_eq!(rt; table.ti(), 300 + 628 + 632);
-    assert_eq!(rt; table.senders().len(), 2);
-    assert_eq!(rt; table.listeners().len(), 1);
-    assert_eq!(rt; payloads.items.len(), 20);
+    assert_eq!(rt;
+        (
+            table.ti(),
+            table.senders().len(),
+            table.listeners().len(),
+            payloads.items.len()
+        ),
+        (300 + 628 + 632, 2, 1, 20)
+    );
     assert!(rt; fits(&table, &payloads).is_ok());
     Ok(())
+}
+
+/// How many words there are, the first and the last.
+fn ends(words: &[u16]) -> Option<(usize, u16, u16)> {
+    match words {
+        [first, .., last] => Some((words.len(), *first, *last)),
+        _ => None,
+    }
+}
+
+/// The terminal of an item, and how many words its only wordstring has, the first and the last.
+fn words_of(item: &Payload) -> Option<(u8, (usize, u16, u16))> {
+    match item.strings.as_slice() {
+        [words] => Some((item.terminal, ends(words)?)),
+        _ => None,
+    }
 }
 
 /// The words of the second sender in the second round of number 1.
 #[test]
 fn makes_the_words_of_a_round(rt: HostRuntime) -> Result<(), Fail> {
     let (table, payloads) = make(rt.alloc(), 1)?;
-    assert_eq!(rt; table.senders().len(), 3);
-    assert_eq!(rt; payloads.items.len(), 60);
-    let item = &payloads.items[4];
-    assert_eq!(rt; item.terminal, 2);
-    assert_eq!(rt; item.strings.len(), 1);
-    let words = item.strings[0].as_slice();
-    assert_eq!(rt; words.len(), 34);
-    assert_eq!(rt; words[0], 1 + 7 + 26);
-    assert_eq!(rt; words[33], 1 + 7 + 26 + 33);
+    assert_eq!(rt; (table.senders().len(), payloads.items.len()), (3, 60));
+    let item = payloads.items.get(4).expect(&rt, "a fifth item");
+    assert_eq!(rt;
+        words_of(item),
+        Some((2, (34, 1 + 7 + 26, 1 + 7 + 26 + 33)))
+    );
     Ok(())
+}
+
+/// How many words the only wordstring of a message has, the first and the last.
+fn words_sent(message: &Message) -> Option<(usize, u16, u16)> {
+    match message.strings() {
+        [string] => ends(string.words()),
+        _ => None,
+    }
 }
 
 /// The hand of the second sender of number 1, whose second message has these words.
 #[test]
 fn deals_the_words_of_a_round(rt: HostRuntime) -> Result<(), Fail> {
     let (table, hands) = make_hands(rt.alloc(), 1)?;
-    assert_eq!(rt; table.senders().len(), 3);
-    assert_eq!(rt; hands.len(), 3);
-    let hand = &hands[1];
-    assert_eq!(rt; hand.terminal, 2);
-    assert_eq!(rt; hand.messages.len(), 20);
-    let strings = hand.messages[1].strings();
-    assert_eq!(rt; strings.len(), 1);
-    let words = strings[0].words();
-    assert_eq!(rt; words.len(), 34);
-    assert_eq!(rt; words[0], 1 + 7 + 26);
-    assert_eq!(rt; words[33], 1 + 7 + 26 + 33);
+    assert_eq!(rt; (table.senders().len(), hands.len()), (3, 3));
+    let hand = hands.get(1).expect(&rt, "a second hand");
+    assert_eq!(rt; (hand.terminal, hand.messages.len()), (2, 20));
+    let message = hand.messages.get(1).expect(&rt, "a second message");
+    assert_eq!(rt;
+        words_sent(message),
+        Some((34, 1 + 7 + 26, 1 + 7 + 26 + 33))
+    );
     Ok(())
 }
 
