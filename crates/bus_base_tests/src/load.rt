@@ -1,9 +1,19 @@
 //! Carrier, by example.
+ghost use Rattle.std.specs.Prelude.{IfOk};
+ghost use Rattle.bus_load.specs.Loads.{AreApart};
+
 use crate::strings::transmissions;
 use bus_load::{Stretch, bits_within, carrier_stretches};
 use std::alloc::Global;
 use std::process::Abort;
 use std::test::Fail;
+
+/// The stretches of the carrier of these.
+fn carrier_of(alloc: Global, sendings: &[(u64, &[usize])]) -> Result<Vec<Stretch>, Fail>
+    ensures { IfOk result (λ carrier. AreApart carrier.items) }
+{
+    Ok(carrier_stretches(alloc, &transmissions(alloc, sendings)?)?)
+}
 
 /// The carrier of these transmissions has these stretches, and so many bit times from one moment up to another.
 fn has_carrier(
@@ -13,12 +23,12 @@ fn has_carrier(
     stretches: &[Stretch],
     spans: &[(u64, u64, u64)],
 ) -> Result<(), Fail> {
-    let carrier = carrier_stretches(alloc, &transmissions(alloc, sendings)?)?;
+    let carrier = carrier_of(alloc, sendings)?;
     assert_eq!(rt; carrier.as_slice(), stretches);
     for (from, to, bits) in spans {
-        assert_eq!(rt;
-            bits_within(&carrier, *from, *to),
-            *bits,
+        let (from, to) = (*from, *to);
+        assert!(rt;
+            bits_within(&carrier, from, to) == *bits,
             "from {from} to {to}"
         );
     }

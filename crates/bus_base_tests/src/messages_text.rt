@@ -16,7 +16,7 @@ fn item_count(alloc: Global, text: &[u8]) -> Result<usize, MessagesError> {
 }
 
 /// That a text is refused at this line.
-const fn refused(line: u64, reason: Reason) -> Result<usize, MessagesError> {
+fn refused(line: u64, reason: Reason) -> Result<usize, MessagesError> {
     Err(MessagesError::Text { line, reason })
 }
 
@@ -40,6 +40,14 @@ fn only_string(item: &Payload) -> Option<(u8, &[u16])> {
     }
 }
 
+/// Those of the first of two items, and of the second.
+fn two(items: &[Payload]) -> (Option<(u8, &[u16])>, Option<(u8, &[u16])>) {
+    match items {
+        [first, second] => (only_string(first), only_string(second)),
+        _ => (None, None),
+    }
+}
+
 /// What a text stands for is written as another one, in pieces of so many bytes, in a sink that has just the room for it.
 fn is_written_as(
     rt: &impl Abort,
@@ -60,14 +68,11 @@ fn is_written_as(
 #[test]
 fn two_items_are_read(rt: HostRuntime) -> Result<(), Fail> {
     let payloads = read_messages(rt.alloc(), TWO_ITEMS)?;
-    if let [first, second] = payloads.items.as_slice() {
-        assert_eq!(rt;
-            (only_string(first), only_string(second)),
-            (Some((1, [0, 1].as_slice())), Some((2, [0xFF].as_slice())),)
-        );
-        return Ok(());
-    }
-    Err("two items")?
+    assert_eq!(rt;
+        two(&payloads.items),
+        (Some((1, [0, 1].as_slice())), Some((2, [0xFF].as_slice())))
+    );
+    Ok(())
 }
 
 #[test]
@@ -82,47 +87,66 @@ fn blanks_comments_and_small_letters_are_read(rt: HostRuntime) -> Result<(), Fai
     is_written_as(&rt, rt.alloc(), text, 99, written)
 }
 
+const ENDS: [(&[u8], Result<usize, MessagesError>); 3] = [
+    (b"MESSAGES 1", Ok(0)),
+    (
+        b"",
+        Err(MessagesError::Text {
+            line: 1,
+            reason: Reason::Ended,
+        }),
+    ),
+    (
+        b"\n# a\n \t\r",
+        Err(MessagesError::Text {
+            line: 4,
+            reason: Reason::Ended,
+        }),
+    ),
+];
+
 #[test]
 fn a_text_may_end_behind_its_header_and_not_before(rt: HostRuntime) {
-    let cases: [(&[u8], Result<usize, MessagesError>); 3] = [
-        (b"MESSAGES 1", Ok(0)),
-        (b"", refused(1, Reason::Ended)),
-        (b"\n# a\n \t\r", refused(4, Reason::Ended)),
-    ];
-    for (text, answer) in cases {
-        assert_eq!(rt; item_count(rt.alloc(), text), answer);
+    for (text, answer) in &ENDS {
+        assert!(rt; item_count(rt.alloc(), text) == *answer);
     }
 }
 
+const WRONG_LINES: [(&[u8], u64, Reason); 11] = [
+    (b"MESSAGE 1\n", 1, Reason::Keyword),
+    (b"\n\nMESSAGES 2\n", 3, Reason::Fields),
+    (b"MESSAGES 1 1\n", 1, Reason::Fields),
+    (b"MESSAGES 1\n\x0cMSG 0 : 0000", 2, Reason::Keyword),
+    (b"MESSAGES 1\nMSG 01", 2, Reason::Fields),
+    (b"MESSAGES 1\nMSG 1 0000 :", 2, Reason::Fields),
+    (b"MESSAGES 1\nMSG 01 : 0000", 2, Reason::Spelling),
+    (b"MESSAGES 1\nMSG 0 : 000", 2, Reason::Spelling),
+    (b"MESSAGES 1\nMSG 1 : 0000 :: 0000", 2, Reason::Spelling),
+    (b"MESSAGES 1\nMSG 129 :", 2, Reason::Range),
+    (b"MESSAGES 1\nMSG 0 :\nMSG 1 : x", 2, Reason::Range),
+];
+
 #[test]
 fn the_first_reason_of_the_first_wrong_line_is_told(rt: HostRuntime) {
-    let cases: [(&[u8], u64, Reason); 11] = [
-        (b"MESSAGE 1\n", 1, Reason::Keyword),
-        (b"\n\nMESSAGES 2\n", 3, Reason::Fields),
-        (b"MESSAGES 1 1\n", 1, Reason::Fields),
-        (b"MESSAGES 1\n\x0cMSG 0 : 0000", 2, Reason::Keyword),
-        (b"MESSAGES 1\nMSG 01", 2, Reason::Fields),
-        (b"MESSAGES 1\nMSG 1 0000 :", 2, Reason::Fields),
-        (b"MESSAGES 1\nMSG 01 : 0000", 2, Reason::Spelling),
-        (b"MESSAGES 1\nMSG 0 : 000", 2, Reason::Spelling),
-        (b"MESSAGES 1\nMSG 1 : 0000 :: 0000", 2, Reason::Spelling),
-        (b"MESSAGES 1\nMSG 129 :", 2, Reason::Range),
-        (b"MESSAGES 1\nMSG 0 :\nMSG 1 : x", 2, Reason::Range),
-    ];
-    for (text, line, reason) in cases {
-        assert_eq!(rt; item_count(rt.alloc(), text), refused(line, reason));
+    for (text, line, reason) in &WRONG_LINES {
+        assert!(rt; item_count(rt.alloc(), text) == refused(*line, *reason));
     }
+}
+
+/// How many items a text has of one item with so many wordstrings of so many data words.
+fn count_of(
+    alloc: Global,
+    strings: u32,
+    words: u32,
+) -> Result<Result<usize, MessagesError>, AllocError> {
+    Ok(item_count(alloc, &item_text(alloc, strings, words)?))
 }
 
 #[test]
 fn an_item_has_31_wordstrings_of_256_words_at_most(rt: HostRuntime) -> Result<(), Fail> {
-    for (strings, words, answer) in [
-        (31, 256, Ok(1)),
-        (32, 0, refused(2, Reason::Range)),
-        (1, 257, refused(2, Reason::Range)),
-    ] {
-        let text = item_text(rt.alloc(), strings, words)?;
-        assert_eq!(rt; item_count(rt.alloc(), &text), answer);
-    }
+    let too_many = refused(2, Reason::Range);
+    assert!(rt; count_of(rt.alloc(), 31, 256)? == Ok(1));
+    assert!(rt; count_of(rt.alloc(), 32, 0)? == too_many);
+    assert!(rt; count_of(rt.alloc(), 1, 257)? == too_many);
     Ok(())
 }

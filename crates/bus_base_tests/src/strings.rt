@@ -5,6 +5,7 @@ use bus_strings::{
 };
 use bus_words::{Ext, Label};
 use std::alloc::{AllocError, Global};
+use std::process::Abort;
 use std::test::Fail;
 
 /// A message whose wordstrings have so many data words, all 7, where there is one.
@@ -47,27 +48,38 @@ pub(crate) fn transmissions(
     Ok(list)
 }
 
+/// The bit times of a message of two pulses, and where each begins and how many it lasts.
+fn two_pulses(message: &Message) -> Option<(u32, (u32, u32), (u32, u32))> {
+    if pulse_count(message) != 2 {
+        return None;
+    }
+    Some((bits(message), pulse(message, 0), pulse(message, 1)))
+}
+
+/// A message is on at these of its bit times, or isn't.
+fn is_on_at(rt: &impl Abort, message: &Message, rows: &[(u32, bool)]) {
+    for (d, on) in rows {
+        assert!(rt; is_on(message, *d) == *on, "at {d}");
+    }
+}
+
+const ON: &[(u32, bool)] = &[
+    (0, true),
+    (39, true),
+    (40, false),
+    (43, false),
+    (44, true),
+    (103, true),
+    (104, false),
+];
+
 #[test]
 fn a_message_is_quiet_for_four_bit_times_between_two_wordstrings(
     rt: HostRuntime,
 ) -> Result<(), Fail> {
     let message = message(rt.alloc(), &[1, 2])?;
-    assert_eq!(rt; pulse_count(&message), 2);
-    assert_eq!(rt;
-        (bits(&message), pulse(&message, 0), pulse(&message, 1)),
-        (104, (0, 40), (44, 60))
-    );
-    for (d, on) in [
-        (0, true),
-        (39, true),
-        (40, false),
-        (43, false),
-        (44, true),
-        (103, true),
-        (104, false),
-    ] {
-        assert_eq!(rt; is_on(&message, d), on, "at {d}");
-    }
+    assert_eq!(rt; two_pulses(&message), Some((104, (0, 40), (44, 60))));
+    is_on_at(&rt, &message, ON);
     Ok(())
 }
 
@@ -79,17 +91,18 @@ fn length(alloc: Global, data_words: &[usize]) -> Result<Option<u32>, AllocError
     }
 }
 
+const LENGTHS: [(&[usize], Option<u32>); 5] = [
+    (&[256; 31], Some(159_460)),
+    (&[0], Some(20)),
+    (&[257], None),
+    (&[0; 32], None),
+    (&[], None),
+];
+
 #[test]
 fn the_longest_message_has_its_length_and_ranges_are_kept(rt: HostRuntime) -> Result<(), Fail> {
-    let cases: [(&[usize], Option<u32>); 5] = [
-        (&[256; 31], Some(159_460)),
-        (&[0], Some(20)),
-        (&[257], None),
-        (&[0; 32], None),
-        (&[], None),
-    ];
-    for (data_words, bits) in cases {
-        assert_eq!(rt; length(rt.alloc(), data_words)?, bits);
+    for (data_words, bits) in &LENGTHS {
+        assert!(rt; length(rt.alloc(), data_words)? == *bits);
     }
     Ok(())
 }
@@ -99,16 +112,19 @@ fn are_equal(old: &Wordstring, new: &Wordstring) -> bool {
     (old.label(), old.ext(), old.words()) == (new.label(), new.ext(), new.words())
 }
 
+/// Whether two messages of two wordstrings have the same ones.
+fn are_copies(old: &Message, new: &Message) -> bool {
+    match (old.strings(), new.strings()) {
+        ([first, second], [third, fourth]) => are_equal(first, third) && are_equal(second, fourth),
+        _ => false,
+    }
+}
+
 #[test]
 fn a_copy_is_equal(rt: HostRuntime) -> Result<(), Fail> {
     let message = message(rt.alloc(), &[1, 2])?;
     let copy = copy_message(rt.alloc(), &message)?;
-    match (message.strings(), copy.strings()) {
-        ([first, second], [third, fourth]) => {
-            assert!(rt; are_equal(first, third) && are_equal(second, fourth));
-        }
-        _ => Err("two wordstrings")?,
-    }
+    assert!(rt; are_copies(&message, &copy));
     Ok(())
 }
 
@@ -134,12 +150,25 @@ fn nine(alloc: Global) -> Result<Vec<Transmission>, Fail> {
 fn a_transmission_is_garbled_where_another_overlaps_it(rt: HostRuntime) -> Result<(), Fail> {
     let list = nine(rt.alloc())?;
     assert!(rt; is_by_moment(&list));
-    let marks: Vec<bool> = Marks::new(&list).collect(rt.alloc())?;
     let expected = [true, true, true, true, false, true, true, true, false];
-    assert_eq!(rt; marks.as_slice(), expected.as_slice());
-    for (k, x) in list.iter().enumerate() {
-        let overlapping = list.iter().filter(|y| overlaps(x, y)).count();
-        assert_eq!(rt; garbled(&list, k), 1 < overlapping, "entry {k}");
+    assert!(rt; Marks::new(&list).eq(expected));
+    Ok(())
+}
+
+/// How many of a list overlap an entry, itself among them.
+fn overlapping(list: &[Transmission], entry: &Transmission) -> usize {
+    list.iter().filter(|other| overlaps(entry, other)).count()
+}
+
+#[test]
+fn a_garbled_transmission_overlaps_more_than_itself(rt: HostRuntime) -> Result<(), Fail> {
+    let list = nine(rt.alloc())?;
+    assert!(rt; is_by_moment(&list));
+    for (k, entry) in list.iter().enumerate() {
+        assert!(rt;
+            garbled(&list, k) == (1 < overlapping(&list, entry)),
+            "entry {k}"
+        );
     }
     Ok(())
 }

@@ -7,19 +7,20 @@ use std::test::Fail;
 
 #[test]
 fn lines_are_numbered_and_skipped(rt: HostRuntime) {
-    let text = b"\nA 1\n # b\n \t\r\n\x0c\nEND";
-    assert_eq!(rt; Lines::new(text).count(), 3);
-    for (line, number) in Lines::new(text).zip([2, 5, 6]) {
-        assert_eq!(rt; line.number, number);
-    }
+    let lines = Lines::new(b"\nA 1\n # b\n \t\r\n\x0c\nEND");
+    assert!(rt; lines.map(|line| line.number).eq([2, 5, 6]));
 }
 
 #[test]
 fn a_text_ends_behind_its_last_line(rt: HostRuntime) {
-    let cases: [(&[u8], u64); 3] = [(b"A\n\nB", 4), (b"A\n\nB\n", 4), (b"", 1)];
-    for (text, line) in cases {
-        assert_eq!(rt; line_after(text), line);
-    }
+    assert_eq!(rt;
+        [
+            line_after(b"A\n\nB"),
+            line_after(b"A\n\nB\n"),
+            line_after(b"")
+        ],
+        [4, 4, 1]
+    );
 }
 
 #[test]
@@ -30,22 +31,23 @@ fn blanks_part_fields(rt: HostRuntime) -> Result<(), Fail> {
     Ok(())
 }
 
+const DECIMALS: [(&[u8], Option<u64>); 10] = [
+    (b"0", Some(0)),
+    (b"128000", Some(128_000)),
+    (b"99999999999999999999999", Some(u64::MAX)),
+    (b"", None),
+    (b"00", None),
+    (b"01", None),
+    (b"+1", None),
+    (b"-0", None),
+    (b"1 ", None),
+    (b"1A", None),
+];
+
 #[test]
 fn numbers_are_plain_decimals(rt: HostRuntime) {
-    let cases: [(&[u8], Option<u64>); 10] = [
-        (b"0", Some(0)),
-        (b"128000", Some(128_000)),
-        (b"99999999999999999999999", Some(u64::MAX)),
-        (b"", None),
-        (b"00", None),
-        (b"01", None),
-        (b"+1", None),
-        (b"-0", None),
-        (b"1 ", None),
-        (b"1A", None),
-    ];
-    for (field, number) in cases {
-        assert_eq!(rt; plain_decimal(field), number);
+    for (field, number) in &DECIMALS {
+        assert!(rt; plain_decimal(field) == *number);
     }
 }
 

@@ -11,28 +11,29 @@ fn label(value: u16) -> Word {
 
 #[test]
 fn label_and_data_words_are_read(rt: HostRuntime) {
-    for (text, word) in [
-        (b"L0A111", label(0x0A11)),
-        (b"L0B210", label(0x0B21)),
-        (b"D00001", data_word(0)),
-        (b"D00010", data_word(1)),
-    ] {
-        assert_eq!(rt; read_word(text), Ok(word));
-    }
+    assert_eq!(rt;
+        [read_word(b"L0A111"), read_word(b"L0B210")],
+        [Ok(label(0x0A11)), Ok(label(0x0B21))]
+    );
+    assert_eq!(rt;
+        [read_word(b"D00001"), read_word(b"D00010")],
+        [Ok(data_word(0)), Ok(data_word(1))]
+    );
 }
+
+const REFUSED: [(&[u8], WordError); 6] = [
+    (b"D0000", WordError::Shape(5)),
+    (b"d00001", WordError::Shape(0)),
+    (b"L0a111", WordError::Shape(2)),
+    (b"D000017", WordError::Shape(6)),
+    (b"", WordError::Shape(0)),
+    (b"D00000", WordError::Parity),
+];
 
 #[test]
 fn the_first_wrong_byte_and_the_other_parity_digit_are_refused(rt: HostRuntime) {
-    let cases: [(&[u8], WordError); 6] = [
-        (b"D0000", WordError::Shape(5)),
-        (b"d00001", WordError::Shape(0)),
-        (b"L0a111", WordError::Shape(2)),
-        (b"D000017", WordError::Shape(6)),
-        (b"", WordError::Shape(0)),
-        (b"D00000", WordError::Parity),
-    ];
-    for (text, error) in cases {
-        assert_eq!(rt; read_word(text), Err(error));
+    for (text, error) in &REFUSED {
+        assert!(rt; read_word(text) == Err(*error));
     }
 }
 
