@@ -16,19 +16,20 @@ fn fit(alloc: Global, text: &[u8]) -> Result<Result<(), FitError>, Fail> {
     Ok(fits(&table, &read_messages(alloc, text)?))
 }
 
+const FITTING: [(&[u8], Result<(), FitError>); 4] = [
+    (b"MESSAGES 1\nMSG 3 : 0000\n", Err(FitError::Stranger(1))),
+    (b"MESSAGES 1\nMSG 1 : 0000\n", Err(FitError::Shape(1))),
+    (
+        b"MESSAGES 1\nMSG 2 :\nMSG 1 : 0000 0001 : 0000\n",
+        Err(FitError::Shape(2)),
+    ),
+    (b"MESSAGES 1\nMSG 1 : 0000 0001\nMSG 2 : 00FF\n", Ok(())),
+];
+
 #[test]
 fn items_fit_the_lines_of_their_senders(rt: HostRuntime) -> Result<(), Fail> {
-    let rows: [(&[u8], Result<(), FitError>); 4] = [
-        (b"MESSAGES 1\nMSG 3 : 0000\n", Err(FitError::Stranger(1))),
-        (b"MESSAGES 1\nMSG 1 : 0000\n", Err(FitError::Shape(1))),
-        (
-            b"MESSAGES 1\nMSG 2 :\nMSG 1 : 0000 0001 : 0000\n",
-            Err(FitError::Shape(2)),
-        ),
-        (b"MESSAGES 1\nMSG 1 : 0000 0001\nMSG 2 : 00FF\n", Ok(())),
-    ];
-    for (text, answer) in rows {
-        assert_eq!(rt; fit(rt.alloc(), text)?, answer);
+    for (text, answer) in &FITTING {
+        assert!(rt; fit(rt.alloc(), text)? == *answer);
     }
     Ok(())
 }
@@ -59,10 +60,8 @@ fn items_are_dealt_to_their_senders(rt: HostRuntime) -> Result<(), Fail> {
     let payloads = read_messages(rt.alloc(), THREE_ITEMS)?;
     assert!(rt; fits(&table, &payloads).is_ok());
     let hands = hands(rt.alloc(), &table, payloads)?;
-    assert_eq!(rt;
-        (counts(&hands), first_string(&hands)),
-        (Some(((1, 1), (2, 2))), Some((0x0b2, [0x00ff].as_slice())))
-    );
+    assert!(rt; counts(&hands) == Some(((1, 1), (2, 2))));
+    assert!(rt; first_string(&hands) == Some((0x0b2, [0x00ff].as_slice())));
     Ok(())
 }
 
@@ -70,7 +69,7 @@ fn items_are_dealt_to_their_senders(rt: HostRuntime) -> Result<(), Fail> {
 fn hands_are_read(rt: HostRuntime) -> Result<(), Fail> {
     let table = read_table(rt.alloc(), TABLE)?;
     let hands = read_hands(rt.alloc(), &table, THREE_ITEMS)?;
-    assert_eq!(rt; counts(&hands), Some(((1, 1), (2, 2))));
+    assert!(rt; counts(&hands) == Some(((1, 1), (2, 2))));
     Ok(())
 }
 
@@ -80,23 +79,24 @@ fn refusal(alloc: Global, text: &[u8]) -> Result<Option<HandsError>, Fail> {
     Ok(read_hands(alloc, &table, text).err())
 }
 
+const REFUSED: [(&[u8], HandsError); 2] = [
+    (
+        b"MESSAGES 1\nMSG 2 :\nMSG 3 :\nMSG 1 :\n",
+        HandsError::Unfit(FitError::Stranger(2)),
+    ),
+    (
+        b"MESSAGES 1\nMSG 3 :\nMSG 1\n",
+        HandsError::Text {
+            line: 3,
+            reason: Reason::Fields,
+        },
+    ),
+];
+
 #[test]
 fn hands_are_refused(rt: HostRuntime) -> Result<(), Fail> {
-    let rows: [(&[u8], HandsError); 2] = [
-        (
-            b"MESSAGES 1\nMSG 2 :\nMSG 3 :\nMSG 1 :\n",
-            HandsError::Unfit(FitError::Stranger(2)),
-        ),
-        (
-            b"MESSAGES 1\nMSG 3 :\nMSG 1\n",
-            HandsError::Text {
-                line: 3,
-                reason: Reason::Fields,
-            },
-        ),
-    ];
-    for (text, error) in rows {
-        assert_eq!(rt; refusal(rt.alloc(), text)?, Some(error));
+    for (text, error) in &REFUSED {
+        assert!(rt; refusal(rt.alloc(), text)? == Some(*error));
     }
     Ok(())
 }

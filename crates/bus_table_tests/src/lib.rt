@@ -6,4 +6,6 @@ mod hand;
 #[cfg(test)]
 mod offset;
 #[cfg(test)]
+mod refused;
+#[cfg(test)]
 mod table;
