@@ -4,6 +4,7 @@ use Rattle.std.specs.Prelude.{ℕ, Bool, true, false, nat_lt, List, [], ◌∷�
 use Rattle.bus_text.specs.declared.reason.Reason.{Reason}
 use Rattle.bus_text.specs.declared.reason.Reason.TheVariants as reasons
 use Rattle.bus_text.specs.AllOf.{◌>>=◌}
+pub use Rattle.bus_text.specs.Lasts.{of_last}
 use Rattle.bus_strings.specs.Limits.{most_strings}
 use Rattle.bus_table.specs.declared.keyword.Keyword.{Keyword}
 use Rattle.bus_table.specs.declared.keyword.Keyword.TheVariants as keywords
@@ -33,12 +34,6 @@ draft_of stage mode ti sg senders listeners =
 -- Before the first line.
 abbrev pub start : Draft
 start = draft_of stages.Start Aperiodic 0 0 [] []
-
--- A number of the last of these, and 0 where there is none.
-abbrev pub of_last : {X : Type 0} → (X → ℕ) → List X → ℕ
-of_last count [] = 0
-of_last count (last ∷ []) = count last
-of_last count (first ∷ next ∷ others) = of_last count (next ∷ others)
 
 -- How many SEND lines the last sender has.
 abbrev pub last_sends : List Sender → ℕ

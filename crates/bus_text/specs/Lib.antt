@@ -8,6 +8,7 @@ pub mod Refusals
 pub mod Gives
 pub mod Reasons
 pub mod AllOf
+pub mod Lasts
 pub mod Headers
 pub mod Canonical
 pub mod inside

@@ -13,6 +13,7 @@ use Rattle.std.specs.Prelude.{List, [], ◌∷◌, ◌++◌, length, codes, Opti
 use Rattle.std.specs.List.{slice_split, flat_map, list_any}
 use Rattle.std.specs.Int.{is_in_range}
 use Rattle.std.specs.Str.{bytes_eq}
+pub use Rattle.bus_text.specs.Lasts.{of_last}
 use Rattle.bus_text.specs.Numbers.{is_plain_decimal, decimal_value}
 use Rattle.bus_text.specs.Refusals.{first_of, unless}
 use Rattle.bus_text.specs.Canonical.{spelled_lines}
@@ -60,12 +61,6 @@ abbrev pub earlier : List Entry → List Entry
 earlier [] = []
 earlier (last ∷ []) = []
 earlier (first ∷ next ∷ others) = first ∷ earlier (next ∷ others)
-
--- A number of the last of these, and 0 where there is none.
-abbrev pub of_last : {X : Type 0} → (X → ℕ) → List X → ℕ
-of_last number [] = 0
-of_last number (last ∷ []) = number last
-of_last number (first ∷ next ∷ others) = of_last number (next ∷ others)
 
 -- The moment of the last transmission, or 0.
 abbrev pub last_moment : List Entry → ℕ
