@@ -20,7 +20,7 @@ use Rattle.bus_shapes.specs.declared.scale.Scale.{Scale}
 use Rattle.bus_shapes.specs.Scales.{place}
 use Rattle.bus_shapes.specs.declared.area.Area.{Area}
 use Rattle.bus_shapes.specs.Shapes.{box_text, words_text}
-use Rattle.bus_shapes.specs.Measures.{left_margin, right_margin}
+use Rattle.bus_shapes.specs.declared.measures.TheConstants.{LEFT_MARGIN as left_margin, RIGHT_MARGIN as right_margin}
 use Rattle.bus_trace.specs.Windows.{Window}
 use Rattle.bus_cycles.specs.Cuts.{seen_of}
 use Rattle.bus_cycles.specs.Rows.{Extent, cycle_of, rows}

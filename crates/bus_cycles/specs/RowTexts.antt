@@ -10,7 +10,7 @@ use Rattle.bus_shapes.specs.Sayings.{sent_words}
 use Rattle.bus_shapes.specs.Scales.{place}
 use Rattle.bus_shapes.specs.declared.area.Area.{Area}
 use Rattle.bus_shapes.specs.Shapes.{titled_text, words_text}
-use Rattle.bus_shapes.specs.Measures as shapes
+use Rattle.bus_shapes.specs.declared.measures.TheConstants as shapes
 use Rattle.bus_cycles.specs.Cuts.{is_cut_before, is_cut_behind, is_whole}
 use Rattle.bus_cycles.specs.Rows.{Extent, Row, extent_of}
 use Rattle.bus_cycles.specs.Pages.{Page, top_of}
@@ -26,7 +26,7 @@ use Rattle.bus_cycles.specs.Measures.{slots}
 -- ---- where a transmission is
 -- The place of a moment in a row that began at this moment, on a whole pixel.
 abbrev pub pixel : Page → ℕ → ℕ → ℕ
-pixel page begin t = place page.scale (t + page.cycle.origin_offset - begin) / shapes.pixel * shapes.pixel
+pixel page begin t = place page.scale (t + page.cycle.origin_offset - begin) / shapes.PIXEL * shapes.PIXEL
 
 -- The left edge of a transmission in a row that began at this moment.
 abbrev pub left_of : Page → ℕ → Sent → ℕ
@@ -34,7 +34,7 @@ left_of page begin sent = pixel page begin sent.moment
 
 -- Its right edge, at least a pixel behind the left one.
 abbrev pub right_of : Page → ℕ → Sent → ℕ
-right_of page begin sent = max (pixel page begin sent.end) (left_of page begin sent + shapes.pixel)
+right_of page begin sent = max (pixel page begin sent.end) (left_of page begin sent + shapes.PIXEL)
 
 -- The lane of its terminal.
 abbrev pub lane_in : Page → Sent → ℕ
@@ -151,9 +151,9 @@ last_end_words page row =
 -- The words of a row: its number, from 1, and the moment at which it begins at its left, its last end at its right.
 abbrev pub words_of : Page → Extent → List ℕ
 words_of page row =
-    words_text Small shapes.left_margin (line_of page row.place) (decimal (row.place + 1))
+    words_text Small shapes.LEFT_MARGIN (line_of page row.place) (decimal (row.place + 1))
     ++ words_text Detail begins_right (line_of page row.place) (begin_words page.cycle.origin_offset row.begin)
-    ++ words_text Detail shapes.right_margin (line_of page row.place) (last_end_words page row)
+    ++ words_text Detail shapes.RIGHT_MARGIN (line_of page row.place) (last_end_words page row)
 
 -- Where a row that is cut at its beginning is drawn open: left of its boxes.
 abbrev pub before_area : Page → ℕ → Area
@@ -166,7 +166,7 @@ before_area page row = record {
 
 -- Where a row that is cut at its end is drawn open begins: where what is seen ends, and right of its boxes.
 abbrev pub behind_left : Page → Extent → ℕ
-behind_left page row = pixel page row.begin (max row.end page.seen.to) + shapes.pixel
+behind_left page row = pixel page row.begin (max row.end page.seen.to) + shapes.PIXEL
 
 -- Where a row that is cut at its end is drawn open: from there to behind all boxes.
 abbrev pub behind_area : Page → Extent → Area

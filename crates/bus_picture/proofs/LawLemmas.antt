@@ -16,7 +16,7 @@ use Rattle.bus_shapes.specs.declared.sent.Sent.{Sent}
 use Rattle.bus_shapes.specs.Laws.{SentsAreTold}
 use Rattle.bus_shapes.specs.Sending.{sents, sents_from}
 use Rattle.bus_shapes.specs.SendingLaws.{IsToldOf}
-use Rattle.bus_shapes.specs.Measures.{pixel}
+use Rattle.bus_shapes.specs.declared.measures.TheConstants.{PIXEL as pixel}
 use Rattle.bus_shapes.specs.Scales.{place}
 use Rattle.bus_picture.specs.Boxes.{Box, Cluster, boxes, boxes_from, bucket, grown, is_close, is_narrow, is_thin, joins, members, one, cluster_of}
 use Rattle.bus_picture.specs.Rows.{Row, box_class, garbled_class, is_of, plain_class, shown, shows}

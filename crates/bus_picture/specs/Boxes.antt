@@ -9,7 +9,7 @@ use Rattle.bus_shapes.specs.Sayings.{garbled_words, sent_words}
 use Rattle.bus_shapes.specs.declared.scale.Scale.{Scale}
 use Rattle.bus_shapes.specs.Scales.{extent, place}
 pub use Rattle.bus_picture.specs.declared.cluster.Cluster.{Cluster}
-use Rattle.bus_shapes.specs.Measures.{pixel}
+use Rattle.bus_shapes.specs.declared.measures.TheConstants.{PIXEL as pixel}
 use Rattle.bus_picture.specs.declared.measures.TheConstants.{BOX_HEIGHT as box_height, LEAST_HEIGHT as least_height, NARROW as narrow}
 
 -- ---- which transmissions share a box

@@ -15,7 +15,7 @@ use Rattle.bus_shapes.specs.declared.scale.Scale.{Scale}
 use Rattle.bus_shapes.specs.declared.sent.Sent.{Sent}
 use Rattle.bus_shapes.specs.declared.told.Told.{Told}
 use Rattle.bus_shapes.specs.Classes.{is_hatched}
-use Rattle.bus_shapes.specs.Measures.{pixel}
+use Rattle.bus_shapes.specs.declared.measures.TheConstants.{PIXEL as pixel}
 use Rattle.bus_shapes.specs.Scales.{IsScale, place}
 use Rattle.bus_shapes.specs.Sending.{sents}
 use Rattle.bus_shapes.specs.SendingLaws.{IsToldOf}

@@ -10,7 +10,7 @@ use Rattle.bus_strings.specs.Pulses.{pulse_length, pulse_start}
 use Rattle.bus_dump.specs.declared.lane.Lane.{Lane}
 use Rattle.bus_shapes.specs.declared.class.Class.TheVariants.{Counts, Detail, Small}
 use Rattle.bus_shapes.specs.declared.scale.Scale.{Scale}
-use Rattle.bus_shapes.specs.Measures.{answer_line, right_margin}
+use Rattle.bus_shapes.specs.declared.measures.TheConstants.{ANSWER_LINE as answer_line, RIGHT_MARGIN as right_margin}
 use Rattle.bus_shapes.specs.Numbers as numbers
 use Rattle.bus_shapes.specs.Sending.{is_of}
 use Rattle.bus_shapes.specs.Shapes.{words_text}

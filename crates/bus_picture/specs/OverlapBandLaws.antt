@@ -4,7 +4,7 @@ use Rattle.bus_strings.specs.Members.{In}
 use Rattle.bus_strings.specs.Messages.{Entry}
 use Rattle.bus_strings.specs.Transmissions.{IsByMoment, end_of}
 use Rattle.bus_shapes.specs.declared.scale.Scale.{Scale}
-use Rattle.bus_shapes.specs.Measures.{pixel}
+use Rattle.bus_shapes.specs.declared.measures.TheConstants.{PIXEL as pixel}
 use Rattle.bus_shapes.specs.Scales.{IsScale, place}
 use Rattle.bus_picture.specs.OverlapBands.{OverlapBand, overlap_bands}
 

@@ -7,7 +7,7 @@ use Rattle.bus_shapes.specs.declared.class.Class.TheVariants.{Gap, GapWords, Int
 use Rattle.bus_shapes.specs.declared.area.Area.{Area}
 use Rattle.bus_shapes.specs.declared.scale.Scale.{Scale}
 use Rattle.bus_shapes.specs.declared.sent.Sent.{Sent}
-use Rattle.bus_shapes.specs.Measures.{pixel}
+use Rattle.bus_shapes.specs.declared.measures.TheConstants.{PIXEL as pixel}
 use Rattle.bus_shapes.specs.Scales.{extent, place}
 use Rattle.bus_shapes.specs.Sending.{sents}
 use Rattle.bus_shapes.specs.Shapes.{box_text, words_text}

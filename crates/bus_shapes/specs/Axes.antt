@@ -10,7 +10,7 @@ use Rattle.bus_shapes.specs.Shapes.{box_text, words_text}
 pub use Rattle.bus_shapes.specs.declared.axis.Axis.{Axis}
 pub use Rattle.bus_shapes.specs.declared.axis.Unit.{Unit}
 pub use Rattle.bus_shapes.specs.declared.axis.Unit.TheVariants.{Microseconds, BitTimes}
-use Rattle.bus_shapes.specs.Measures.{left_margin, mark_room, mark_width}
+use Rattle.bus_shapes.specs.declared.measures.TheConstants.{LEFT_MARGIN as left_margin, MARK_ROOM as mark_room, MARK_WIDTH as mark_width}
 
 -- ---- units
 -- The microseconds of a millisecond.

@@ -12,7 +12,9 @@ use Rattle.bus_shapes.specs.Numbers.{parted}
 use Rattle.bus_shapes.specs.Sayings.{counted, table_words}
 use Rattle.bus_shapes.specs.Shapes.{Area, box_text, words_text}
 pub use Rattle.bus_shapes.specs.declared.counts.Counts.{Counts}
-use Rattle.bus_shapes.specs.Measures.{answer_line, facts_line, head_line, left_margin, picture_width, pixel, right_margin}
+use Rattle.bus_shapes.specs.declared.measures.TheConstants.{ANSWER_LINE as answer_line, FACTS_LINE as facts_line, HEAD_LINE as head_line}
+use Rattle.bus_shapes.specs.declared.measures.TheConstants.{LEFT_MARGIN as left_margin, PICTURE_WIDTH as picture_width, PIXEL as pixel}
+use Rattle.bus_shapes.specs.declared.measures.TheConstants.{RIGHT_MARGIN as right_margin}
 
 -- ---- the head
 -- The style of words of every class.

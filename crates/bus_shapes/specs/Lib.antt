@@ -1,5 +1,4 @@
 -- What the contracts of this crate cite.
-pub mod Measures
 pub mod Classes
 pub mod Shapes
 pub mod Numbers

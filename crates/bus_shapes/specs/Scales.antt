@@ -1,7 +1,15 @@
 -- Where moments are drawn. A unit is a tenth of a pixel; division rounds down.
-use Rattle.std.specs.Prelude.{ℕ, ◌+◌, ◌-◌, ◌*◌, ◌/◌, ◌<◌, ◌≤◌, min, max}
+use Rattle.std.specs.Prelude.{ℕ, ◌+◌, ◌-◌, ◌*◌, ◌/◌, ◌^◌, ◌<◌, ◌≤◌, min, max}
 pub use Rattle.bus_shapes.specs.declared.scale.Scale.{Scale}
-use Rattle.bus_shapes.specs.Measures.{pixel, place_bound, scale_bound}
+use Rattle.bus_shapes.specs.declared.measures.TheConstants.{PIXEL as pixel}
+
+-- No moment of a scale is above it: twice the greatest horizon.
+abbrev pub scale_bound : ℕ
+scale_bound = 2 ^ 41
+
+-- All edges and widths of scales are below it.
+abbrev pub place_bound : ℕ
+place_bound = 2 ^ 20
 
 -- The bounds of a scale.
 pub record IsScale (scale : Scale) : Type 0 where

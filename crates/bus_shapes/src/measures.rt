@@ -1,4 +1,4 @@
-//! The measures of pictures, in units of a tenth of a pixel. Contracts have them as the words of `specs/Measures`.
+//! The measures of pictures, in units of a tenth of a pixel. The definitions cite them.
 
 /// A pixel has ten units.
 pub const PIXEL: u64 = 10;
