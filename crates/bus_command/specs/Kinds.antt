@@ -79,7 +79,7 @@ pub data Held : Type 0 where
 
 -- What is said of a kind:
 --   point      where it stands in the order of refusals
---   reach      how far the source was read at which the command stopped; where it stopped at none, both
+--   reach      how far the source was read at which the command stopped, or both sources where it stopped at neither
 --   early      whether it may come before the first byte is written
 --   behind     whether it may come behind the texts; at a source, of the second one
 --   count      which count of faults rose

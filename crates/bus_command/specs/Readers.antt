@@ -176,7 +176,7 @@ pub data FailsToRead (named : Named) (before after : Sources) (source : ℕ) : T
   Second : source ≡ 2 → IsSome named.second → Stays before.first after.first → Rises before.second after.second
       → FailsToRead named before after source
 
--- Those of both sources, where the command stopped at one: it is named, and its count rose or did not.
+-- The counts of both sources, where the command stopped at one: that one is named, and its count rose or did not.
 abbrev pub CountsAtSource : Named → Sources → Sources → ℕ → Bool → Type 0
 CountsAtSource named before after source false = IsNamed named source × BothStay before after
 CountsAtSource named before after source true = FailsToRead named before after source
@@ -188,7 +188,7 @@ CountsFrom named before after (AtSource source) rises = CountsAtSource named bef
 CountsFrom named before after BehindBoth rises = BothStay before after
 CountsFrom named before after Anywhere rises = BothStay before after
 
--- A count of a source rose exactly where it couldn't be read. What is said of a source is said of a named one.
+-- The count of a source rose exactly where the source couldn't be read. A command stops only at a source that its words name.
 abbrev pub SourceCounts : Named → Sources → Sources → Kind → Type 0
 SourceCounts named before after kind = CountsFrom named before after (row_of kind).point (rises_at_source (row_of kind).count)
 

@@ -9,8 +9,8 @@ MayReplaceBy Itself due outcome = due ≡ outcome
 MayReplaceBy (From stage) due outcome = stage ≤ stage_of (kind_of due)
 MayReplaceBy AnAnswer due outcome = kind_of due ≡ Answer
 
--- The same of an outcome of this kind: want of memory unless the words are no form, a failed read of a source before which nothing is
--- refused, a failed write where an answer is due.
+-- The same of an outcome of this kind. In place of what is due may stand want of memory, unless the words are no form; a failed read, where
+-- nothing is refused before its source; a failed write, where an answer is due. Any other outcome is due itself.
 abbrev pub MayReplaceAs : {R : Type 0} → Kind → Outcome R → Outcome R → Type 0
 MayReplaceAs kind due outcome = MayReplaceBy (row_of kind).replaces due outcome
 
@@ -18,7 +18,7 @@ MayReplaceAs kind due outcome = MayReplaceBy (row_of kind).replaces due outcome
 abbrev pub MayReplace : {R : Type 0} → Outcome R → Outcome R → Type 0
 MayReplace due outcome = MayReplaceAs (kind_of outcome) due outcome
 
--- The stage of what is due to a step: a refusal, or what comes behind it.
+-- The stage of what is due of a step: that of its refusal, or 3, behind both sources, where the step gives a value.
 abbrev pub stage_in : {R Y : Type 0} → Result Y (Outcome R) → ℕ
 stage_in (Ok y) = 3
 stage_in (Err refusal) = stage_of (kind_of refusal)

@@ -15,7 +15,8 @@ pub record IsRoundOf (hands : List Hand) (round : ℕ) (senders : List Sender) (
   pub whole : length list ≡ length senders
   pub turn : (place : ℕ) (sender : Sender) → slice_get senders place ≡ Some sender → HasTurn hands list place round sender
 
--- The list is rounds, one after the other, as many as a hand has messages at most: those of who has a message left, in turn order.
+-- The list is rounds, one after the other, as many as a hand has messages at most: each of the senders that have a message left, in turn
+-- order.
 pub record IsInLiveRounds (table : Table) (hands : List Hand) (list : List Entry) : Type 0 where
   pub round : ℕ → List Entry
   pub whole : list ≡ in_rounds round (most_messages hands)

@@ -30,15 +30,15 @@ pub record HasBox (scale : Scale) (lanes : List Lane) (trace : Recording) (of : 
   pub there : In box (boxes scale (shown scale row trace.list))
   pub is : of row box
 
--- It is one of what is garbled, or of what isn't.
+-- The row of the box is that of garbled transmissions, or that of the others.
 abbrev pub IsMarked : Bool → Row → Box → Type 0
 IsMarked garbled row box = row.garbled ≡ garbled
 
--- It is one of what takes less than a pixel, whose height goes by how busy it is.
+-- The first transmission of the box takes less than a pixel, so that the height of the box goes by how busy its time is.
 abbrev pub IsThin : Scale → Row → Box → Type 0
 IsThin scale row box = is_thin scale (cluster_of box).first ≡ true
 
--- Timers are drawn, and this is of lane k, the terminal of which is a sender: what is the same all along the lane are its timings.
+-- Timers are drawn, the terminal of lane k is a sender, and this holds of its timings, which are the same all along the lane.
 pub record HasTimer (scale : Scale) (lanes : List Lane) (table : Table) (trace : Recording) (of : LaneTimings → Sender → Type 0)
     : Type 0 where
   pub k : ℕ

@@ -65,7 +65,7 @@ garbled_sample top =
     sample_box Garbled garbled_left top garbled_width ++ inner_box Noise noise_left top noise_width
     ++ sample_words garbled_words top (codes "garbled")
 
--- What it says of garbled messages, where one is shown.
+-- What the legend says of garbled messages, where one is shown.
 abbrev pub legend_garbled : Bool → ℕ → List ℕ
 legend_garbled there top = if there then garbled_sample top else []
 
@@ -73,7 +73,7 @@ legend_garbled there top = if there then garbled_sample top else []
 abbrev pub overlap_band_sample : ℕ → List ℕ
 overlap_band_sample top = sample_box Overlap overlap_left top column_width ++ sample_words overlap_words top (codes "two or more at once")
 
--- What it says of overlap bands, where there is one.
+-- What the legend says of overlap bands, where there is one.
 abbrev pub legend_overlap_band : Bool → ℕ → List ℕ
 legend_overlap_band there top = if there then overlap_band_sample top else []
 
@@ -82,7 +82,7 @@ abbrev pub horizon_sample : ℕ → List ℕ
 horizon_sample top =
     sample_box Unobserved unobserved_left top column_width ++ sample_words unobserved_words top (codes "behind the horizon")
 
--- What it says of what lies behind the horizon, where the window goes on there.
+-- What the legend says of what lies behind the horizon, where the window goes on there.
 abbrev pub legend_horizon : Bool → ℕ → List ℕ
 legend_horizon there top = if there then horizon_sample top else []
 
@@ -90,7 +90,7 @@ legend_horizon there top = if there then horizon_sample top else []
 abbrev pub gap_sample : ℕ → List ℕ
 gap_sample top = sample_line Gap gap_left top ++ sample_words gap_words top (codes "gap: SG, TG")
 
--- What it says of gaps, where the line of one is drawn.
+-- What the legend says of gaps, where the line of one is drawn.
 abbrev pub legend_gaps : Bool → ℕ → List ℕ
 legend_gaps there top = if there then gap_sample top else []
 
@@ -98,7 +98,7 @@ legend_gaps there top = if there then gap_sample top else []
 abbrev pub interval_sample : ℕ → List ℕ
 interval_sample top = sample_line Interval interval_left top ++ sample_words interval_words top (codes "transmit interval: TI")
 
--- What it says of transmit intervals, where the line of one is drawn.
+-- What the legend says of transmit intervals, where the line of one is drawn.
 abbrev pub legend_intervals : Bool → ℕ → List ℕ
 legend_intervals there top = if there then interval_sample top else []
 
@@ -108,7 +108,7 @@ tick_sample top =
     legend_box Mark tick_left (top + sample_tick_below) offset_width offset_height
     ++ sample_words offset_words top (codes "offset: AT")
 
--- What it says of where senders should start, where a tick is drawn.
+-- What the legend says of offsets, where a tick is drawn.
 abbrev pub legend_offsets : Bool → ℕ → List ℕ
 legend_offsets there top = if there then tick_sample top else []
 
@@ -122,7 +122,7 @@ shares_sample top =
     share_box whole_left top sample_height ++ share_box quarter_left top quarter_height
     ++ share_box sixteenth_left top sixteenth_height ++ sample_words shares_words top (codes "low boxes: busy 1/1, 1/4, 1/16")
 
--- What it says of heights, where there is such a box.
+-- What the legend says of heights, where there is such a box.
 abbrev pub legend_shares : Bool → ℕ → List ℕ
 legend_shares there top = if there then shares_sample top else []
 

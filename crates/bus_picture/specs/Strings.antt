@@ -86,8 +86,8 @@ digits_text garbled area width digits =
     if nat_lt area.width width then []
     else words_text (digits_class garbled) (area.left + area.width / 2) (area.top + string_line) digits
 
--- How the area of a label word looks. Of a garbled transmission it is but tinted: its wordstring has the
--- words under the pointer.
+-- How the area of a label word looks. In a garbled transmission the area is tinted only: the words under the pointer are those of its
+-- wordstring.
 abbrev pub label_class : Bool → Class
 label_class garbled = if garbled then Overlap else Label
 

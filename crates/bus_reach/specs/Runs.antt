@@ -23,7 +23,7 @@ IsSpacedWithin table delays list =
     → slice_get list (k + length table.senders) ≡ Some y → IsApart least (most + cycle_delay table delays) x y
 
 -- The list is the run of a table and even hands with these delays, which are up to `most` between its senders, and these wakes:
---   lawful    each sender starts exactly when its three timers allow after what it heard and it has a message left, up to the list's end
+--   lawful    each sender starts exactly when it has a message left and its three timers allow after what it heard, up to the list's end
 --   only      no other list is lawful up to there
 --   clear     no terminal that hears every sender soon enough, be it a sender or a listener, hears two transmissions overlap
 --   turns     every round holds each sender once, in turn order

@@ -9,14 +9,14 @@ use Rattle.bus_medium.specs.Wakes.{settled}
 use Rattle.bus_schedule.specs.Closed.{closed, closed_end}
 use Rattle.bus_schedule.specs.Runs.{IsClear, IsInTurns, IsPaced}
 
--- How late a terminal may hear the senders of a table so as to hear no two transmissions overlap, where the delays between the senders are
--- up to `most`: so much too, and a sender alone as late as the synchronization gap, in bit times.
+-- By how many bit times later a terminal may hear the senders of a table and hear no two transmissions overlap, where the delays between the
+-- senders are up to `most`: by as many, and a lone sender by a synchronization gap.
 abbrev pub clear_within : Table → ℕ → ℕ
 clear_within table most = if length table.senders == 1 then table.sg else most
 
 -- The list is the run of a table and even hands with these delays, which are up to `most` between its senders:
 --   closed    it is the closed schedule without delays, in whole
---   lawful    each sender starts exactly when its three timers allow after what it heard and it has a message left, up to the closed end
+--   lawful    each sender starts exactly when it has a message left and its three timers allow after what it heard, up to the closed end
 --   only      no other list is lawful up to there
 --   clear     no terminal that hears every sender soon enough, be it a sender or a listener, hears two transmissions overlap
 --   turns     every round holds each sender once, in turn order

@@ -1,6 +1,6 @@
 -- How long a cable a periodic table bears: by how many bit times later at most its terminals may hear each other.
 --
---   d       so many bit times later at most a sender hears another
+--   d       by how many bit times later at most a sender hears another
 --   slack   of a sender that has not yet heard a synchronization gap since its own start: by how many bit times later at most it hears the
 --           last message. It is none where the sender has heard such a gap, whatever the delays
 --

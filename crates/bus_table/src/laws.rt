@@ -1,4 +1,4 @@
-//! Laws of the definitions, each the contract of a function that does nothing.
+//! Laws of tables, their texts and what fits them, each the contract of a function that does nothing.
 ghost use Rattle.std.specs.Prelude.{◌≡◌, ◌≤◌, ℕ, IsTrue, IsOk, List, Ok, Err, length};
 ghost use Rattle.bus_strings.specs.Items.{Item};
 ghost use Rattle.bus_strings.specs.Messages.{Message, bits};

@@ -47,7 +47,7 @@ use Rattle.bus_tool.specs.ToleranceClaims.{tolerance_reply, TellsTolerance}
 use Rattle.bus_tool.specs.TraceClaims.{IsFinding, is_lawful, TellsVotes}
 use Rattle.bus_tool.specs.WaveClaims.{HasAWave}
 
--- What a call promises that asks for something. `Asks` says what it asks for; `Answers`, that it ends with a status and answers a reply of
+-- What a call promises that asks for something. `Asks` says what it asks for; `Answers`, that it ends with a status and with a reply of
 -- which something holds, or that memory was refused, of which `itself` takes none. `Asking` and `Answering` say once for all commands by
 -- which words and texts: tables are valid, items fit, traces are traces, numbers lie within their limits, and nothing outside fails. A yes
 -- has the status Done, a no Refused.

@@ -21,7 +21,7 @@ pub record Gave (lines : List ℕ) (s : State) : Type 0 where
   pub text : lines ≡ text_of s
   pub run : run begin lines ≡ Going (behind s)
 
--- The bytes of a line, or of its front, which begins at this byte; with the lines before it nothing is wrong.
+-- A line that begins at this byte, or its front, behind lines with which nothing is wrong.
 pub record LineAt (byte : ℕ) : Type 0 where
   pub before : State
   pub lines : List ℕ
@@ -33,16 +33,17 @@ pub record LineAt (byte : ℕ) : Type 0 where
 -- These bytes end with the offending line, or with its 1,802nd byte where no line feed came before, which decides it. Its place is the
 -- length of the lines before.
 pub data Offends (taken : List ℕ) (byte : ℕ) (reason : TraceReason) : Type 0 where
-  Complete : (at : LineAt byte) → taken ≡ at.lines ++ (at.line ++ 10 ∷ []) → length at.line ≤ line_limit → step at.before at.line ≡ Err reason
+  Complete : (at : LineAt byte) → taken ≡ at.lines ++ (at.line ++ 10 ∷ []) → length at.line ≤ line_limit
+      → step at.before at.line ≡ Err reason → Offends taken byte reason
+  Overlong : (at : LineAt byte) → taken ≡ at.lines ++ at.line → length at.line ≡ (line_limit + 1) → reason ≡ Long
       → Offends taken byte reason
-  Overlong : (at : LineAt byte) → taken ≡ at.lines ++ at.line → length at.line ≡ (line_limit + 1) → reason ≡ Long → Offends taken byte reason
 
 -- A text is refused at the length of the lines before the offending line. It was taken up to where that line is decided, or to the end
 -- of the source.
 pub data Refuses (taken : List ℕ) (left : Option (List ℕ)) (byte : ℕ) (reason : TraceReason) : Type 0 where
   ByLine : Offends taken byte reason → Refuses taken left byte reason
-  CutOff : (at : LineAt byte) → taken ≡ at.lines ++ at.line → length at.line ≤ line_limit → IfSome left (λ rest. rest ≡ []) → reason ≡ Ended
-      → Refuses taken left byte reason
+  CutOff : (at : LineAt byte) → taken ≡ at.lines ++ at.line → length at.line ≤ line_limit → IfSome left (λ rest. rest ≡ [])
+      → reason ≡ Ended → Refuses taken left byte reason
 
 -- These bytes decide, and one less of them decides nothing.
 pub record Decides (bytes : List ℕ) (p : Progress) : Type 0 where

@@ -10,7 +10,7 @@ use Rattle.bus_trace.specs.States.{State, start, last_count, may_follow}
 abbrev pub stop_in : State → Stop
 stop_in s = record { position = s.position; format = s.format; strings = last_count s.list }
 
--- Behind bytes that lead so far; where a line of them is refused, or the limit was passed, as behind none.
+-- Behind bytes that lead so far; where one of their lines is refused, or the limit is passed, as behind none.
 abbrev pub stop_by : Progress → Stop
 stop_by (Going r) = stop_in r.state
 stop_by (Found s) = stop_in s

@@ -158,7 +158,7 @@ AllSit {C} core quiet now seats clocks =
 abbrev pub MovesOnce : {C : Type 0} → Ghosts C → Seat C → Seat C → Type 0
 MovesOnce core x y = core.moves y.terminal.core + x.terminal.sent ≤ core.moves x.terminal.core + y.terminal.sent
 
--- Every core did.
+-- Each of them, in turn.
 abbrev pub MovedBySent : {C : Type 0} → Ghosts C → List (Seat C) → List (Seat C) → Type 0
 MovedBySent core xs ys = Each (MovesOnce core) xs ys
 
@@ -181,7 +181,7 @@ pub record NextPlace (now most : ℕ) (clocks : List Clock) (place : ℕ) : Type
   pub before : (j : ℕ) (k : Clock) → slice_get clocks j ≡ Some k → (place ≤ k.ready) ⊎ (place ≡ now)
   pub found : (place ≡ most) ⊎ ((j : ℕ) × (k : Clock) × (slice_get clocks j ≡ Some k) × (k.ready ≤ place))
 
--- Of the clocks none but number p of the list, from 0, is ready at this place, or before.
+-- No clock but number p of the list, counted from 0, is ready at this place or before.
 pub record IsAlone (place : ℕ) (clocks : List Clock) (p : ℕ) : Type 0 where
   pub within : p < length clocks
   pub others : (j : ℕ) (k : Clock) → j ≢ p → slice_get clocks j ≡ Some k → place < k.ready
@@ -197,11 +197,11 @@ pub record IsKept (timers : Timers) : Type 0 where
 abbrev pub AreNoShorter : ℕ → List Clock → Type 0
 AreNoShorter least clocks = (j : ℕ) (k : Clock) → slice_get clocks j ≡ Some k → least ≤ k.sg
 
--- So are the timers of each sender.
+-- The timers of each sender are kept.
 abbrev pub EachKept : List Timers → Type 0
 EachKept all_timers = (j : ℕ) (w : Timers) → slice_get all_timers j ≡ Some w → IsKept w
 
--- All timers between two messages at the place now, where `idle` has what all have heard.
+-- All timers are kept between two messages, at the place now; `idle` has what all have heard.
 pub record AreKept (idle : BusIdle) (now : ℕ) (all_timers : List Timers) : Type 0 where
   pub ended : idle.ended ≤ now
   pub least : AreNoShorter idle.least (clocks_of idle.ended all_timers)

@@ -9,7 +9,8 @@ use Rattle.bus_medium.specs.Buses.{Seat, number_of}
 use Rattle.bus_medium.specs.Orders.{IsSendOrder}
 use Rattle.bus_medium.specs.inside.Lazy.{RunsLazily, DecidedLazily, MovedBySent, EndsAt, clocks_of, AreKept, AreNoShorter}
 
--- At moment t nobody has decided yet. The list is what was sent, and the timers stand between two messages.
+-- At moment t, which is below the greatest horizon, nobody has decided yet. The list is what was sent, and the timers stand between two
+-- messages. `places` has the senders in the order in which they send.
 pub record MayBegin {C : Type 0} (core : Ghosts C) (quiet t : ℕ) (places : List ℕ) (idle : BusIdle) (seats : List (Seat C))
     (all_timers : List Timers) (list : List Entry) : Type 0 where
   pub moment : t < horizon_limit
@@ -18,8 +19,11 @@ pub record MayBegin {C : Type 0} (core : Ghosts C) (quiet t : ℕ) (places : Lis
   pub kept : AreKept idle (quiet + t) all_timers
   pub at : RunsLazily core quiet seats (clocks_of idle.ended all_timers) list t
 
--- The senders xs and their timers vs have decided at moment t, and have become ys and ws. What they have begun is added to the list, and
--- the last of it ends at moment `end`, which is t where they have begun nothing.
+-- The senders xs and their timers vs have decided at moment t, and have become ys and ws:
+--   least     no synchronization gap is shorter than `idle` says
+--   decided   what they have begun is added to the list
+--   moved     no core was moved more often than its sender has begun
+--   ended     where all before has ended by t, all has ended at `end`, which is t or where something ends that they have begun
 pub record BeginsAt {C : Type 0} (core : Ghosts C) (quiet t : ℕ) (idle : BusIdle) (xs ys : List (Seat C)) (vs ws : List Timers)
     (old new : List Entry) (end : ℕ) : Type 0 where
   pub least : AreNoShorter idle.least (clocks_of idle.ended ws)
