@@ -1,0 +1,6 @@
+use Rattle.std.proofs.Common.{arith}
+use Rattle.std.proofs.lemmas.Grind.{common_steps}
+use Rattle.bus_trace.proofs.writing.put_strings.Goals as goal
+
+pub loop-string-preserved : goal.loop-string-preserved
+loop-string-preserved g c = grind (arith, common_steps)
