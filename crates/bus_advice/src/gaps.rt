@@ -1,6 +1,5 @@
 //! Advices on a periodic table whose gaps are refused: a greater transmit interval, and other offsets.
 ghost use Rattle.std.specs.Prelude.{◌≡◌, ◌≤◌, false, IfOk};
-ghost use Rattle.std.specs.Option.{option_map};
 ghost use Rattle.bus_table.specs.Turned.{AreTurned};
 ghost use Rattle.bus_table.specs.declared.mode.Mode.TheVariants.{Periodic};
 ghost use Rattle.bus_regime.specs.Ends.{AreEnds};

@@ -4,7 +4,6 @@ ghost use Rattle.bus_table.specs.Lengths as lengths;
 ghost use Rattle.bus_table.specs.Ranges.{most_ti};
 ghost use Rattle.bus_table.specs.declared.mode.Mode.TheVariants.{Aperiodic};
 ghost use Rattle.bus_regime.specs.Starting.{starts_itself};
-ghost use Rattle.bus_regime.specs.Verdicts.{verdict_of, is_accepted};
 ghost use Rattle.bus_advice.specs.Advices as advised;
 ghost use Rattle.bus_advice.specs.Changes.{with_interval};
 

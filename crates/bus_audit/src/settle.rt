@@ -1,5 +1,5 @@
 //! The watches at the settled start.
-ghost use Rattle.std.specs.Prelude.{◌≡◌, ℕ, ◌+◌, ◌<◌, length, map, slice_get, Some, IfOk};
+ghost use Rattle.std.specs.Prelude.{◌≡◌, ◌+◌, ◌<◌, length, map, slice_get, Some, IfOk};
 ghost use Rattle.bus_table.specs.Tables as tables;
 ghost use Rattle.bus_audit.specs.Breaches as breaches;
 ghost use Rattle.bus_audit.specs.inside.Watches as sums;

@@ -1,5 +1,5 @@
 //! Bit times by terminal number, for a look-up in one step.
-ghost use Rattle.std.specs.Prelude.{◌≡◌, ◌≤◌, ℕ, IsTrue, length};
+ghost use Rattle.std.specs.Prelude.{◌≡◌, ℕ, IsTrue};
 ghost use Rattle.bus_cable.specs.Cables.{may_name_all, most_wake, bits_for};
 ghost use Rattle.bus_propagation.specs.Numbered.{numbered};
 

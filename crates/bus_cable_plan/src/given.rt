@@ -1,7 +1,6 @@
 //! What the offsets bear that a table has as it is given.
 ghost use Rattle.std.specs.Prelude.{◌≡◌, IfOk};
 ghost use Rattle.bus_table.specs.declared.mode.Mode.TheVariants.{Periodic};
-ghost use Rattle.bus_table.specs.Ranges.{most_ti};
 ghost use Rattle.bus_cable_plan.specs.Answers as answers;
 ghost use Rattle.bus_cable_plan.specs.Plans.{given_offsets};
 

@@ -1,5 +1,5 @@
 //! The intervals by which it is decided whether a delay is borne.
-ghost use Rattle.std.specs.Prelude.{◌≡◌, ◌*◌, ◌<◌, ◌≤◌, length, IfOk};
+ghost use Rattle.std.specs.Prelude.{◌≡◌, ◌*◌, ◌<◌, ◌≤◌, IfOk};
 ghost use Rattle.bus_strings.specs.Limits.{most_terminal};
 ghost use Rattle.bus_table.specs.declared.mode.Mode.TheVariants.{Periodic};
 ghost use Rattle.bus_table.specs.Ranges.{most_ti};

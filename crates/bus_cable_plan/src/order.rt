@@ -1,6 +1,5 @@
 //! The senders of a table in the order of their terminal gaps.
-ghost use Rattle.std.specs.Prelude.{◌≡◌, ◌-◌, map, IfOk};
-ghost use Rattle.bus_table.specs.Ranges.{most_tg};
+ghost use Rattle.std.specs.Prelude.{◌≡◌, ◌-◌, IfOk};
 ghost use Rattle.bus_table.specs.declared.mode.Mode.TheVariants.{Periodic};
 ghost use Rattle.bus_cable_plan.specs.Plans.{by_gap};
 

@@ -1,5 +1,5 @@
 //! The shapes of a plan, and which of them needs least.
-ghost use Rattle.std.specs.Prelude.{◌≡◌, ◌+◌, ◌-◌, ◌*◌, ◌<◌, ◌≤◌, ◌^◌, max, min, length};
+ghost use Rattle.std.specs.Prelude.{◌≡◌, ◌+◌, ◌-◌, ◌*◌, ◌<◌, ◌≤◌, max, min};
 ghost use Rattle.bus_table.specs.Turned.{AreTurned};
 ghost use Rattle.bus_table.specs.Turns.{turn_order};
 ghost use Rattle.bus_table.specs.Ranges.{most_sg, most_tg, most_ti};

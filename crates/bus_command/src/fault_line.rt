@@ -1,6 +1,6 @@
 //! The line of an outcome, on the error output.
-ghost use Rattle.std.specs.Prelude.{◌++◌, codes, decimal, List, [], ◌∷◌};
-ghost use Rattle.bus_command.specs.Outcomes.{error_head, error_line, fault_line, fault_words, line_with, own_of, plain_line, status_of};
+ghost use Rattle.std.specs.Prelude.{◌++◌, codes, decimal, [], ◌∷◌};
+ghost use Rattle.bus_command.specs.Outcomes.{error_head, error_line, fault_line, fault_words, plain_line, status_of};
 ghost use Rattle.bus_command.specs.Statuses.{number_of};
 ghost use Rattle.bus_outer.specs.Sinks.{WritesText};
 ghost use Rattle.bus_outer.specs.Texts.{Adds};

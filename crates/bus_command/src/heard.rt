@@ -1,5 +1,5 @@
 //! What stands behind a trace: what terminals hear on a cable, or something else.
-ghost use Rattle.std.specs.Prelude.{◌≡◌, ◌≤◌, IfOk, IfSome, length};
+ghost use Rattle.std.specs.Prelude.{◌≡◌, ◌≤◌, IfOk};
 ghost use Rattle.bus_command.specs.Heard as definition;
 ghost use Rattle.bus_command.specs.Heard.{most_line};
 ghost use Rattle.bus_command.specs.inside.Looking.{CountsLook, TakesLooked, TakesLine, TakesLines};

@@ -1,5 +1,5 @@
 //! A trace with what stands behind it: of what was recorded on a cable, what terminals hear.
-ghost use Rattle.std.specs.Prelude.{◌≡◌, IfOk};
+ghost use Rattle.std.specs.Prelude.{IfOk};
 ghost use Rattle.bus_command.specs.Due.{followed_due, recorded_due, table_refusal_of};
 ghost use Rattle.bus_command.specs.Readers.{by_recorded, reader_of};
 ghost use Rattle.bus_command.specs.Steps.{Same, TakesFrom, PreparesFrom};

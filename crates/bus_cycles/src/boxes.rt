@@ -18,7 +18,7 @@ use crate::shown::Shown;
 use crate::survey::MOST_ROWS;
 use bus_outer::{Sink, TextBuffer};
 use bus_shapes::{
-    Area, Class, Sent, begin_titled, begin_words, digits_class, end_titled, end_words, put_sent,
+    Area, Sent, begin_titled, begin_words, digits_class, end_titled, end_words, put_sent,
 };
 use bus_trace::{Trace, Window};
 

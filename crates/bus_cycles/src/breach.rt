@@ -1,5 +1,5 @@
 //! The first breach in a picture.
-ghost use Rattle.std.specs.Prelude.{◌≡◌, ◌<◌, ◌≤◌, ◌^◌, IfSome};
+ghost use Rattle.std.specs.Prelude.{◌<◌, ◌≤◌, ◌^◌, IfSome};
 ghost use Rattle.bus_outer.specs.Texts.{Adds};
 ghost use Rattle.bus_shapes.specs.declared.class.Class.TheVariants.{Breach};
 ghost use Rattle.bus_shapes.specs.Shapes.{box_text};

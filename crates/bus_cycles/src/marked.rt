@@ -1,5 +1,5 @@
 //! Whether a fault is marked in a row.
-ghost use Rattle.std.specs.Prelude.{◌≡◌, ◌<◌, ◌≤◌, ◌+◌, ◌-◌, ◌^◌, ◌∷◌, ◌&&◌, ◌||◌, length};
+ghost use Rattle.std.specs.Prelude.{◌≡◌, ◌<◌, ◌+◌, ◌-◌, ◌^◌, ◌∷◌, ◌&&◌, ◌||◌, length};
 ghost use Rattle.std.specs.List.{AllByRecursion};
 ghost use Rattle.bus_cycles.specs.Faults as definition;
 ghost use Rattle.bus_cycles.specs.Surveys.{is_drawn};

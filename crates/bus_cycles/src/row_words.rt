@@ -1,5 +1,5 @@
 //! The words of a row, and where it is cut.
-ghost use Rattle.std.specs.Prelude.{◌≡◌, ◌≤◌, ◌^◌};
+ghost use Rattle.std.specs.Prelude.{◌≤◌, ◌^◌};
 ghost use Rattle.bus_outer.specs.Texts.{Adds};
 ghost use Rattle.bus_cycles.specs.inside.Bounds.{IsPage};
 ghost use Rattle.bus_cycles.specs.RowTexts as definition;

@@ -7,7 +7,6 @@ ghost use Rattle.bus_schedule.specs.Uneven.{uneven_of};
 ghost use Rattle.bus_trace.specs.Limits.{trace_limit};
 ghost use Rattle.bus_trace.specs.Runs.{reading};
 ghost use Rattle.bus_trace.specs.States.{last_end as last_end_of};
-ghost use Rattle.bus_diagnosis.specs.declared.kind.Kind.TheVariants as kinds;
 ghost use Rattle.bus_diagnosis.specs.Diagnoses as diagnoses;
 
 use crate::diagnosis::Diagnosis;

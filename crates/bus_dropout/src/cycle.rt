@@ -1,6 +1,5 @@
 //! The last cycle: that of the senders that have the most messages.
 ghost use Rattle.std.specs.Prelude.{◌≡◌, ◌+◌, ◌==◌, ◌≤◌, ◌^◌, length, IsTrue, if◌then◌else◌};
-ghost use Rattle.std.specs.List.{sum_by};
 ghost use Rattle.bus_table.specs.declared.mode.Mode.TheVariants.{Aperiodic};
 ghost use Rattle.bus_table.specs.Hands.{are_hands};
 ghost use Rattle.bus_table.specs.Lengths.{shortest};

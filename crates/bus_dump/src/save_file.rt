@@ -1,5 +1,5 @@
 //! The text of a save file.
-ghost use Rattle.std.specs.Prelude.{◌≤◌, ◌<◌, not, [], drop, IfSome, if◌then◌else◌};
+ghost use Rattle.std.specs.Prelude.{◌<◌, [], drop, IfSome, if◌then◌else◌};
 ghost use Rattle.std.specs.List.{flat_map};
 ghost use Rattle.std.specs.Option.{option_map_or};
 ghost use Rattle.bus_outer.specs.Sinks.{WritesText};

@@ -1,5 +1,5 @@
 //! The timers of a sender that hears the bus of a trace.
-ghost use Rattle.std.specs.Prelude.{◌≡◌, ◌+◌, ◌^◌, ◌<◌, ◌≤◌, true};
+ghost use Rattle.std.specs.Prelude.{◌≡◌, ◌+◌, ◌^◌, ◌<◌, true};
 ghost use Rattle.bus_dump.specs.inside.SenderTimers as sums;
 ghost use Rattle.bus_dump.specs.inside.SenderTimers.{IsLow};
 

@@ -3,7 +3,7 @@ use bus_dump::{Dump, FirstBreach, doubled, write_dump, write_save_file};
 use bus_outer::{MemorySink, MemorySource};
 use bus_regime::verdict;
 use bus_strings::limits::HORIZON_LIMIT;
-use bus_table::{Table, read_table};
+use bus_table::read_table;
 use bus_trace::{Trace, Window, read_trace};
 use std::alloc::Global;
 use std::test::Fail;

@@ -2,7 +2,6 @@
 use crate::calls::{TABLE, Text, written};
 use bus_dump::Dump;
 use bus_text::plain_decimal;
-use std::alloc::Global;
 use std::test::Fail;
 
 /// Terminal 2 begins in the inner gap of terminal 1's message. A stranger follows it at its end. The horizon is inside two

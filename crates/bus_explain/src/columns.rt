@@ -1,7 +1,7 @@
 //! Columns of fixed widths, in which fields stand at the right.
 ghost use Rattle.bus_outer.specs.Texts.{Adds};
 ghost use Rattle.bus_explain.specs.Columns as columns;
-ghost use Rattle.std.specs.Prelude.{◌-◌, length, replicate};
+ghost use Rattle.std.specs.Prelude.{replicate};
 
 use bus_outer::{Sink, TextBuffer};
 use itoa::{Buffer, Integer};

@@ -1,5 +1,5 @@
 //! Advices as a JSON value.
-ghost use Rattle.std.specs.Prelude.{◌≡◌, codes, map, IfOk};
+ghost use Rattle.std.specs.Prelude.{◌≡◌, IfOk};
 ghost use Rattle.serde_json.specs.View.{view};
 ghost use Rattle.bus_facts.specs.Advised as advised;
 

@@ -1,12 +1,11 @@
 //! The senders of a table as JSON values.
-ghost use Rattle.std.specs.Prelude.{◌≡◌, ◌+◌, ◌<◌, ◌≤◌, ◌^◌, pos, drop, map, length, IfOk, IfSome, slice_get, Some};
+ghost use Rattle.std.specs.Prelude.{◌≡◌, ◌+◌, ◌<◌, map, length, IfOk, IfSome, Some};
 ghost use Rattle.std.specs.Option.{option_map};
 ghost use Rattle.serde_json.specs.Data.{number};
 ghost use Rattle.serde_json.specs.Find.{of_integer};
 ghost use Rattle.serde_json.specs.View.{view};
-ghost use Rattle.bus_table.specs.Turns.{turn_order};
 ghost use Rattle.bus_table.specs.declared.mode.Mode.TheVariants.{Aperiodic, Periodic};
-ghost use Rattle.bus_regime.specs.Gaps.{gaps, width as gap_width};
+ghost use Rattle.bus_regime.specs.Gaps.{width as gap_width};
 ghost use Rattle.bus_reach.specs.Latency as latencies;
 ghost use Rattle.bus_facts.specs.Senders as senders;
 ghost use Rattle.bus_facts.specs.inside.Slow.{IsSlow};

@@ -1,5 +1,5 @@
 //! What is told of a valid table.
-ghost use Rattle.std.specs.Prelude.{◌≡◌, false, IfOk, IsTrue};
+ghost use Rattle.std.specs.Prelude.{◌≡◌, IfOk};
 ghost use Rattle.serde_json.specs.View.{members_view, view};
 ghost use Rattle.bus_regime.specs.Verdicts.{is_accepted, verdict_of};
 ghost use Rattle.bus_explain.specs.Accepted.{IsAcceptedWith};

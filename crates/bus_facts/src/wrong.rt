@@ -4,7 +4,6 @@ ghost use Rattle.std.specs.List.{filter};
 ghost use Rattle.serde_json.specs.View.{view};
 ghost use Rattle.bus_table.specs.Forms.{all_keywords, word_of};
 ghost use Rattle.bus_table.specs.Stops as stops;
-ghost use Rattle.bus_text.specs.Reasons as reasons;
 ghost use Rattle.bus_facts.specs.Wrong as wrong;
 
 use crate::values::{ext_text, label_text};

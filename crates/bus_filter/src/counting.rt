@@ -1,6 +1,6 @@
 //! How many RX lines the received text has.
 ghost use Rattle.std.specs.Prelude.{◌≡◌, ◌+◌, ◌*◌, ◌≤◌, ◌<◌, ◌^◌, Bool, IfSome, length};
-ghost use Rattle.std.specs.List.{sum_by, zip};
+ghost use Rattle.std.specs.List.{sum_by};
 ghost use Rattle.bus_strings.specs.Limits.{most_strings, most_terminal};
 ghost use Rattle.bus_strings.specs.Transmissions.{IsByMoment, marks};
 ghost use Rattle.bus_table.specs.Ranges.{most_takes};

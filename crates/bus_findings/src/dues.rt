@@ -1,5 +1,5 @@
 //! When a terminal was due for certain.
-ghost use Rattle.std.specs.Prelude.{◌≡◌, ◌<◌, ◌≤◌, ◌+◌, ◌^◌, ℕ, Some, None, IfSome};
+ghost use Rattle.std.specs.Prelude.{◌≡◌, ◌<◌, ◌≤◌, ◌+◌, ◌^◌, ℕ, Some, None};
 ghost use Rattle.bus_recording.specs.Walk as walk;
 ghost use Rattle.bus_findings.specs.Recorded.{recorded, reach as reach_of};
 ghost use Rattle.bus_findings.specs.inside.Walked as walked;

@@ -1,5 +1,5 @@
 //! The faults of a transmission, in one line.
-ghost use Rattle.std.specs.Prelude.{◌≡◌, nat_lt, codes, List, [], ◌∷◌};
+ghost use Rattle.std.specs.Prelude.{◌≡◌, nat_lt, [], ◌∷◌};
 ghost use Rattle.std.specs.Option.{option_map_or};
 ghost use Rattle.bus_outer.specs.Texts.{Adds};
 ghost use Rattle.bus_findings.specs.Terminals as counts;

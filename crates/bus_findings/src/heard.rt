@@ -1,8 +1,7 @@
 //! What was seen of all terminals before a transmission.
-ghost use Rattle.std.specs.Prelude.{◌≡◌, ℕ, ◌+◌, ◌^◌, ◌<◌, ◌≤◌, [], ◌∷◌, ◌++◌, List, length, take, slice_get, Some};
+ghost use Rattle.std.specs.Prelude.{◌≡◌, ℕ, ◌+◌, ◌^◌, ◌<◌, ◌≤◌, [], ◌∷◌, ◌++◌, List, length};
 ghost use Rattle.bus_strings.specs.Transmissions.{IsAscending};
 ghost use Rattle.bus_recording.specs.Seen.{Seen};
-ghost use Rattle.bus_findings.specs.Recorded.{seen};
 ghost use Rattle.bus_findings.specs.inside.Standing as standing;
 ghost use Rattle.bus_findings.specs.inside.Standing.{AreEnds, IsHeard, HasBegun, HasReached};
 

@@ -1,5 +1,5 @@
 //! What a start lacks of its timers.
-ghost use Rattle.std.specs.Prelude.{◌≡◌, ℕ, ◌^◌, ◌<◌, ◌≤◌, length, slice_get, Some};
+ghost use Rattle.std.specs.Prelude.{◌≡◌, ◌^◌, ◌<◌, ◌≤◌, length, slice_get, Some};
 ghost use Rattle.bus_strings.specs.Messages.{Entry};
 ghost use Rattle.bus_strings.specs.Transmissions.{IsAscending};
 ghost use Rattle.bus_table.specs.Tables as tables;

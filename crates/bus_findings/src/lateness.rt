@@ -1,5 +1,5 @@
 //! When a start is too late.
-ghost use Rattle.std.specs.Prelude.{◌≡◌, ℕ, ◌+◌, ◌^◌, ◌<◌, ◌≤◌, ◌&&◌, nat_le, nat_lt, length, slice_get, Some, None, IsTrue};
+ghost use Rattle.std.specs.Prelude.{◌≡◌, ◌+◌, ◌^◌, ◌<◌, ◌≤◌, ◌&&◌, nat_le, nat_lt, length, slice_get, Some, None, IsTrue};
 ghost use Rattle.std.specs.Prelude.{count_by, option_map};
 ghost use Rattle.bus_strings.specs.Messages.{Entry};
 ghost use Rattle.bus_strings.specs.Transmissions.{IsAscending};

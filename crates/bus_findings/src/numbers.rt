@@ -1,5 +1,4 @@
 //! The lines of numbers, behind the findings.
-ghost use Rattle.std.specs.Prelude.{decimal};
 ghost use Rattle.bus_outer.specs.Texts.{Adds};
 ghost use Rattle.bus_findings.specs.Texts as texts;
 

@@ -1,5 +1,5 @@
 //! The last long stretch in which nobody was heard.
-ghost use Rattle.std.specs.Prelude.{◌≡◌, ℕ, ◌+◌, ◌^◌, ◌<◌, ◌≤◌, List, length, slice_get, Some};
+ghost use Rattle.std.specs.Prelude.{◌≡◌, ◌+◌, ◌^◌, ◌<◌, ◌≤◌, List, length, slice_get, Some};
 ghost use Rattle.bus_strings.specs.Messages.{Entry};
 ghost use Rattle.bus_bounds.specs.Bounds.{Bounds};
 ghost use Rattle.bus_findings.specs.Recorded.{reach as reach_of};

@@ -1,5 +1,5 @@
 //! The longest stretch that a terminal may have heard quiet.
-ghost use Rattle.std.specs.Prelude.{◌≡◌, ◌<◌, ◌≤◌, ◌-◌, ◌^◌};
+ghost use Rattle.std.specs.Prelude.{◌≡◌, ◌<◌, ◌-◌, ◌^◌};
 ghost use Rattle.bus_recording.specs.Walk as walk;
 ghost use Rattle.bus_findings.specs.Recorded.{recorded, reach as reach_of};
 

@@ -1,6 +1,5 @@
 //! What is found behind the last transmission.
-ghost use Rattle.std.specs.Prelude.{◌≡◌, ◌<◌, ◌≤◌, ◌^◌, length};
-ghost use Rattle.bus_trace.specs.Traces.{IsTrace};
+ghost use Rattle.std.specs.Prelude.{◌≡◌, ◌<◌, ◌^◌, length};
 ghost use Rattle.bus_findings.specs.Recorded.{settled_of};
 ghost use Rattle.bus_findings.specs.Silences.{silence_of};
 ghost use Rattle.bus_findings.specs.inside.Standing.{IsWatch};

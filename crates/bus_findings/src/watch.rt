@@ -1,5 +1,5 @@
 //! What is kept of a sender.
-ghost use Rattle.std.specs.Prelude.{◌≡◌, ℕ, ◌+◌, ◌^◌, ◌<◌, ◌≤◌, List, length, slice_get, Some, min, max};
+ghost use Rattle.std.specs.Prelude.{◌≡◌, ◌+◌, ◌^◌, ◌<◌, length, slice_get, Some, min, max};
 ghost use Rattle.bus_strings.specs.Messages.{Entry};
 ghost use Rattle.bus_strings.specs.Transmissions.{IsAscending};
 ghost use Rattle.bus_findings.specs.Judging.{judgement_of};

@@ -1,11 +1,9 @@
 //! The findings of a recording.
-ghost use Rattle.std.specs.Prelude.{◌≡◌, ℕ, ◌<◌, ◌≤◌, ◌^◌, length, min, count_by, is_some, IfOk};
+ghost use Rattle.std.specs.Prelude.{◌≡◌, ℕ, ◌<◌, ◌≤◌, ◌^◌, length, min, is_some, IfOk};
 ghost use Rattle.std.specs.List.{flat_map};
 ghost use Rattle.bus_outer.specs.Sinks.{WritesText};
 ghost use Rattle.bus_outer.specs.Texts.{Adds};
 ghost use Rattle.bus_strings.specs.Transmissions.{IsAscending};
-ghost use Rattle.bus_findings.specs.Recorded.{settled_of};
-ghost use Rattle.bus_findings.specs.Silences.{silence_of};
 ghost use Rattle.bus_findings.specs.Terminals as counts;
 ghost use Rattle.bus_findings.specs.Terminals.{has_fault, totals_among};
 ghost use Rattle.bus_findings.specs.Texts as texts;

@@ -1,5 +1,5 @@
 //! Dealing the items of a messages text out to the senders of a table.
-ghost use Rattle.std.specs.Prelude.{◌≡◌, ◌==◌, [], length, map, nat_eq, position, IfOk, OnOk, IsOk, IsTrue};
+ghost use Rattle.std.specs.Prelude.{◌≡◌, [], length, map, nat_eq, IfOk, OnOk, IsOk, IsTrue};
 ghost use Rattle.std.specs.List.{IsDistinct};
 ghost use Rattle.bus_strings.specs.Items.{numbers};
 ghost use Rattle.bus_table.specs.Fits as fits;

@@ -1,5 +1,5 @@
 //! How much an aperiodic table bears.
-ghost use Rattle.std.specs.Prelude.{◌≡◌, ◌≢◌, ◌≤◌, ◌+◌, true, IsNone, IfSome, ◌↔◌};
+ghost use Rattle.std.specs.Prelude.{◌≡◌, ◌≢◌, ◌≤◌, ◌+◌, IsNone, IfSome, ◌↔◌};
 ghost use Rattle.bus_table.specs.Turned.{AreTurned};
 ghost use Rattle.bus_margins.specs.Bearing as specs;
 ghost use Rattle.bus_margins.specs.Bearing.{IsBorne};

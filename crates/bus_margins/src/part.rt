@@ -1,6 +1,5 @@
 //! The bounds one by one, and what is borne of each.
 ghost use Rattle.std.specs.Prelude.{◌≡◌, ◌≤◌};
-ghost use Rattle.bus_bounds.specs.Bounds.{AreBounds};
 ghost use Rattle.bus_margins.specs.Bearing as specs;
 
 use bus_bounds::{Bounds, MOST_CLOCKS, MOST_DELAY, MOST_JITTER};

@@ -1,5 +1,5 @@
 //! The margins of an aperiodic table.
-ghost use Rattle.std.specs.Prelude.{◌≡◌, ◌≤◌, ◌<◌, ◌^◌, ◌+◌, List, [], length, map, Some, None, slice_get};
+ghost use Rattle.std.specs.Prelude.{◌≡◌, ◌≤◌, ◌<◌, ◌^◌, ◌+◌, [], Some, None, slice_get};
 ghost use Rattle.bus_table.specs.Turned.{AreTurned};
 ghost use Rattle.bus_table.specs.Turns.{turn_order};
 ghost use Rattle.bus_margins.specs.Least as specs;

@@ -1,6 +1,5 @@
 //! How much a periodic table bears.
-ghost use Rattle.std.specs.Prelude.{◌≡◌, ◌≢◌, ◌≤◌, ◌<◌, ◌+◌, ◌^◌, true, IsNone, IfSome, ◌↔◌};
-ghost use Rattle.bus_table.specs.Timers.{quiet_of};
+ghost use Rattle.std.specs.Prelude.{◌≡◌, ◌≢◌, ◌≤◌, ◌<◌, true, IsNone, IfSome, ◌↔◌};
 ghost use Rattle.bus_table.specs.Turned.{AreTurned};
 ghost use Rattle.bus_margins.specs.Bearing as parts;
 ghost use Rattle.bus_margins.specs.Bearing.{IsBorne};

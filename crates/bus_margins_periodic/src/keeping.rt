@@ -1,7 +1,6 @@
 //! Whether the rule of order holds, and no more: a turn that is due late enough behind another leaves all that are due later late enough
 //! too.
-ghost use Rattle.std.specs.Prelude.{◌≡◌, ◌<◌, ◌≤◌, ◌+◌, ◌-◌, ◌*◌, ◌^◌, length, suc, true};
-ghost use Rattle.bus_drift.specs.Turns.{fastest, slowest};
+ghost use Rattle.std.specs.Prelude.{◌≡◌, ◌<◌, ◌≤◌, ◌+◌, ◌-◌, ◌^◌, true};
 ghost use Rattle.bus_table.specs.Turned.{AreTurned};
 ghost use Rattle.bus_margins.specs.Buses.{bus_of};
 ghost use Rattle.bus_margins_periodic.specs.Least as least;

@@ -3,7 +3,6 @@ ghost use Rattle.std.specs.Prelude.{◌≡◌, ◌<◌, ◌≤◌, ◌+◌, ◌-
 ghost use Rattle.bus_drift.specs.Leading.{least_offset, round_end};
 ghost use Rattle.bus_table.specs.Timers.{quiet_of};
 ghost use Rattle.bus_table.specs.Turned.{AreTurned};
-ghost use Rattle.bus_table.specs.Turns.{turn_order};
 ghost use Rattle.bus_margins.specs.Buses.{bus_of};
 ghost use Rattle.bus_margins_periodic.specs.Buses.{late_of, soon_of};
 ghost use Rattle.bus_margins_periodic.specs.Least as least;

@@ -1,5 +1,5 @@
 //! How long a round of turns lasts at most.
-ghost use Rattle.std.specs.Prelude.{◌≡◌, ◌<◌, ◌≤◌, ◌+◌, ◌-◌, ◌^◌, length};
+ghost use Rattle.std.specs.Prelude.{◌≡◌, ◌≤◌, ◌+◌, ◌-◌, ◌^◌, length};
 ghost use Rattle.bus_drift.specs.Pace.{greatest_below, longest_round};
 ghost use Rattle.bus_table.specs.Turned.{AreTurned};
 ghost use Rattle.bus_table.specs.Turns.{turn_order};

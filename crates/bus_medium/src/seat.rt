@@ -1,5 +1,4 @@
 //! A sender of the bus.
-ghost use Rattle.std.specs.Prelude.{◌≡◌};
 
 use crate::terminal::Terminal;
 use bus_timers::{Core, Timing};

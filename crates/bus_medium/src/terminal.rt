@@ -1,6 +1,6 @@
 //! A sending terminal: its timers, its hand and what it is sending.
-ghost use Rattle.std.specs.Prelude.{◌≡◌, ℕ, ◌+◌, ◌<◌, ◌≤◌, ◌↔◌, ◌⊎◌, ◌++◌, ◌∷◌, [], Bool, true, false, List, length, replicate, slice_get};
-ghost use Rattle.std.specs.Prelude.{Option, Some, None, IsTrue, MatchOption, nat_lt};
+ghost use Rattle.std.specs.Prelude.{◌≡◌, ◌+◌, ◌<◌, ◌≤◌, ◌∷◌, [], true, false, length, replicate, slice_get};
+ghost use Rattle.std.specs.Prelude.{Option, Some, None, MatchOption, nat_lt};
 ghost use Rattle.bus_timers.specs.Told.{CountsOne, HasHeard, HasStarted};
 ghost use Rattle.bus_timers.specs.Histories.{HasHeardAll};
 ghost use Rattle.bus_strings.specs.Messages.{IsMessage};

@@ -1,5 +1,5 @@
 //! The timings of the senders of a table.
-ghost use Rattle.std.specs.Prelude.{◌≡◌, ◌+◌, ◌<◌, ◌≤◌, ℕ, length, slice_get, Some};
+ghost use Rattle.std.specs.Prelude.{◌≡◌, ◌+◌, ◌<◌, ◌≤◌, length, slice_get, Some};
 ghost use Rattle.bus_table.specs.Tables as tables;
 ghost use Rattle.bus_timers.specs.Timings.{IsSound};
 ghost use Rattle.bus_medium.specs.Timings.{quiet_of, due_for, timing_of};

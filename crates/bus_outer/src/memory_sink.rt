@@ -1,5 +1,5 @@
 //! A sink in memory, which fails at the pushes that it is told and where it is full.
-ghost use Rattle.std.specs.Prelude.{◌≡◌, ◌⊎◌, ◌-◌, ◌<◌, ◌≤◌, ◌↔◌, ℕ, [], Contains, IfOk, Some, length, min, vec_capacity, vec_len};
+ghost use Rattle.std.specs.Prelude.{◌≡◌, ◌-◌, ◌<◌, ◌≤◌, ◌↔◌, ℕ, [], IfOk, Some, length, min, vec_capacity, vec_len};
 ghost use Rattle.bus_outer.specs.Faults.{one_more};
 ghost use Rattle.bus_outer.specs.Sinks.{Pushes, CountsPush};
 

@@ -1,5 +1,5 @@
 //! A buffer of fixed size before a sink, so that a text of many fields comes in few pushes.
-ghost use Rattle.std.specs.Prelude.{◌≡◌, [], ◌∷◌, length, decimal};
+ghost use Rattle.std.specs.Prelude.{◌≡◌, [], ◌∷◌};
 ghost use Rattle.std.specs.Fmt.{signed_decimal};
 ghost use Rattle.bus_outer.specs.Texts.{IsFresh, Adds, Ends, has_failed};
 ghost use Rattle.bus_outer.specs.Waiting.{waiting};

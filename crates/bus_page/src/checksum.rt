@@ -1,5 +1,5 @@
 //! The checksum of bytes: CRC-32.
-ghost use Rattle.std.specs.Prelude.{◌≡◌, ◌<◌, ◌^◌};
+ghost use Rattle.std.specs.Prelude.{◌≡◌, ◌^◌};
 ghost use Rattle.bus_page.specs.Checksums as definition;
 
 /// The polynomial, without its highest power and with the others from the lowest bit on.

@@ -1,5 +1,5 @@
 //! What a page begins with: the verdict in words, and the figures of an accepted table.
-ghost use Rattle.std.specs.Prelude.{◌≡◌, ◌<◌, ◌≤◌, ◌^◌};
+ghost use Rattle.std.specs.Prelude.{◌≡◌, ◌<◌};
 ghost use Rattle.bus_outer.specs.Texts.{Adds};
 ghost use Rattle.bus_explain.specs.Accepted.{HasLeast};
 ghost use Rattle.bus_margins_periodic.specs.Sentences.{drifting};

@@ -1,5 +1,5 @@
 //! What the boxes of pictures stand for, their texts, and the frame of a picture.
-ghost use Rattle.std.specs.Prelude.{◌≡◌, ◌++◌, codes};
+ghost use Rattle.std.specs.Prelude.{◌≡◌};
 ghost use Rattle.bus_outer.specs.Texts.{Adds};
 ghost use Rattle.bus_page.specs.Paints as definition;
 

@@ -1,5 +1,5 @@
 //! The slots of a periodic table: the gap before each sender, and its longest message.
-ghost use Rattle.std.specs.Prelude.{◌≡◌, ◌≤◌, ◌<◌, ◌^◌, IfOk, length};
+ghost use Rattle.std.specs.Prelude.{◌≡◌, ◌≤◌, ◌<◌, ◌^◌, IfOk};
 ghost use Rattle.bus_page.specs.Slots as definition;
 
 use crate::turn::Stretch;

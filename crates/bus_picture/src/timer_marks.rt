@@ -1,5 +1,5 @@
 //! Whether a mark of timers is drawn in lanes.
-ghost use Rattle.std.specs.Prelude.{◌≡◌, ◌<◌};
+ghost use Rattle.std.specs.Prelude.{◌≡◌};
 ghost use Rattle.bus_audit.specs.Breaches.{held};
 ghost use Rattle.bus_shapes.specs.Scales.{IsScale};
 ghost use Rattle.bus_picture.specs.Kinds as definition;

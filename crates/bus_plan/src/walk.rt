@@ -1,7 +1,5 @@
 //! The planned offsets, in one walk over the senders.
 ghost use Rattle.std.specs.Prelude.{◌≡◌, ◌+◌, ◌<◌, ◌≤◌, ◌^◌, IfOk};
-ghost use Rattle.bus_table.specs.Lengths as lengths;
-ghost use Rattle.bus_table.specs.declared.mode.Mode.TheVariants.{Periodic};
 ghost use Rattle.bus_plan.specs.Plans.{planned_offsets};
 ghost use Rattle.bus_plan.specs.inside.Walks as walks;
 ghost use Rattle.bus_table.specs.Ranges.{most_sg, most_tg};

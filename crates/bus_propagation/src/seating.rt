@@ -1,11 +1,11 @@
 //! The senders of a table, powered up when they like.
-ghost use Rattle.std.specs.Prelude.{◌≡◌, ℕ, ◌<◌, ◌≤◌, length, map, slice_get, Some, IfOk, IsTrue};
+ghost use Rattle.std.specs.Prelude.{◌≡◌, ℕ, ◌<◌, length, map, slice_get, Some, IfOk, IsTrue};
 ghost use Rattle.std.specs.List.{AllByRecursion};
-ghost use Rattle.bus_strings.specs.Limits.{horizon_limit, most_terminal};
+ghost use Rattle.bus_strings.specs.Limits.{horizon_limit};
 ghost use Rattle.bus_table.specs.Tables as tables;
 ghost use Rattle.bus_table.specs.Hands.{are_hands};
 ghost use Rattle.bus_table.specs.Valid.{is_valid};
-ghost use Rattle.bus_medium.specs.Timings.{quiet_of, timing_of, stations_of};
+ghost use Rattle.bus_medium.specs.Timings.{quiet_of, stations_of};
 ghost use Rattle.bus_propagation.specs.Numbered.{numbered};
 ghost use Rattle.bus_propagation.specs.inside.Seats.{station_of};
 ghost use Rattle.bus_propagation.specs.inside.Turns.{IsSeated, IsSeatOf};

@@ -1,5 +1,5 @@
 //! A sender starts.
-ghost use Rattle.std.specs.Prelude.{◌≡◌, ◌<◌, length, IfOk};
+ghost use Rattle.std.specs.Prelude.{◌<◌, length, IfOk};
 ghost use Rattle.bus_strings.specs.Limits.{horizon_limit};
 ghost use Rattle.bus_propagation.specs.inside.Turns.{IsSender, Begun};
 

@@ -1,5 +1,5 @@
 //! What limits how much delay a table bears: its conditions one by one, each with what it alone bears.
-ghost use Rattle.std.specs.Prelude.{◌≡◌, ◌≢◌, ◌++◌, ◌+◌, ◌<◌, ◌≤◌, [], drop, map, length, Some, slice_get, IfOk, OnOk, IsTrue};
+ghost use Rattle.std.specs.Prelude.{◌≡◌, ◌≢◌, ◌++◌, ◌+◌, ◌<◌, ◌≤◌, [], drop, map, length, Some, IfOk, OnOk, IsTrue};
 ghost use Rattle.bus_strings.specs.Members.{In};
 ghost use Rattle.bus_table.specs.Turned.{AreTurned};
 ghost use Rattle.bus_table.specs.Turns.{turn_order};

@@ -1,7 +1,6 @@
 //! The gaps of a periodic table, one by one in turn order.
 ghost use Rattle.std.specs.Prelude.{◌≡◌, ◌≤◌, ◌<◌, ◌^◌, ◌+◌, IsSomeAnd, Some, length, slice_get};
 ghost use Rattle.bus_table.specs.Turned.{AreTurned};
-ghost use Rattle.bus_table.specs.Turns.{turn_order};
 ghost use Rattle.bus_table.specs.Lengths.{longest as longest_of};
 ghost use Rattle.bus_regime.specs.Ends.{AreEnds};
 ghost use Rattle.bus_regime.specs.Gaps.{gaps};
@@ -30,7 +29,6 @@ impl<'a> Model for TurnGap<'a> {
 }
 
 impl<'a> TurnGap<'a> {
-    ghost use Rattle.std.specs.Prelude.{not};
     ghost use Rattle.bus_regime.specs.Gaps.{has_width, width as gap_width};
     ghost use Rattle.bus_regime.specs.Verdicts as verdicts;
 

@@ -1,7 +1,5 @@
 //! The verdict on a table, and that on an aperiodic one.
-ghost use Rattle.std.specs.Prelude.{◌≡◌, ◌≤◌, ◌*◌};
-ghost use Rattle.std.specs.List.{sum_by};
-ghost use Rattle.bus_table.specs.Tables.{Sender};
+ghost use Rattle.std.specs.Prelude.{◌≡◌};
 ghost use Rattle.bus_regime.specs.Verdicts.{least_cycle as least_of, most_cycle as most_of, by_cycles as cycle_verdict, verdict_of};
 
 use crate::periodic::by_gaps;

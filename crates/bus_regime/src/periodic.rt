@@ -1,5 +1,5 @@
 //! The verdict on a periodic table, in two passes over its gaps and without memory.
-ghost use Rattle.std.specs.Prelude.{◌≡◌, ◌+◌, ◌<◌, ◌≤◌, cond, IfOk, IfErr, None, Some};
+ghost use Rattle.std.specs.Prelude.{◌≡◌, ◌+◌, ◌<◌, cond, IfOk, IfErr, None, Some};
 ghost use Rattle.std.specs.List.{count_by, find};
 ghost use Rattle.bus_strings.specs.Members.{In};
 ghost use Rattle.bus_table.specs.Turned.{AreTurned};

@@ -6,7 +6,6 @@ ghost use Rattle.bus_shapes.specs.Frames.{frame_text};
 ghost use Rattle.bus_shapes.specs.Frames as definition;
 ghost use Rattle.bus_shapes.specs.Headings.{told_words};
 ghost use Rattle.bus_shapes.specs.Sayings.{counted, ending, summary_words, table_words};
-ghost use Rattle.bus_shapes.specs.Shapes.{words_text};
 
 use crate::area::Area;
 use crate::class::Class;

@@ -1,5 +1,5 @@
 //! Numbers as people read them: with their thousands parted, in microseconds, and as a share.
-ghost use Rattle.std.specs.Prelude.{◌≡◌, ◌<◌, ◌≤◌, ◌+◌, ◌^◌, ◌/◌, ◌%◌, ◌∷◌, [], decimal};
+ghost use Rattle.std.specs.Prelude.{◌<◌, ◌+◌, ◌^◌, ◌/◌, ◌%◌, ◌∷◌, [], decimal};
 ghost use Rattle.bus_outer.specs.Texts.{Adds};
 ghost use Rattle.bus_shapes.specs.Numbers as definition;
 ghost use Rattle.bus_strings.specs.Microseconds.{half_text};

@@ -1,5 +1,5 @@
 //! A transmission, as a picture tells of it, and its words.
-ghost use Rattle.std.specs.Prelude.{◌≤◌, ◌++◌, codes, decimal};
+ghost use Rattle.std.specs.Prelude.{◌≤◌};
 ghost use Rattle.bus_outer.specs.Texts.{Adds};
 ghost use Rattle.bus_shapes.specs.Sayings as definition;
 

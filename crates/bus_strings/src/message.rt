@@ -1,5 +1,5 @@
 //! A message: the wordstrings that a terminal sends at one start.
-ghost use Rattle.std.specs.Prelude.{◌≡◌, ◌<◌, ◌≤◌, ◌↔◌, IsSome, IsNone, [], ◌∷◌, ◌++◌, IfSome, IfOk, OnOk, OnErr, length, vec_len};
+ghost use Rattle.std.specs.Prelude.{◌≡◌, ◌<◌, ◌≤◌, ◌↔◌, IsSome, [], ◌∷◌, ◌++◌, IfSome, IfOk, OnOk, OnErr, length, vec_len};
 ghost use Rattle.bus_strings.specs.Limits.{most_strings};
 ghost use Rattle.bus_strings.specs.Messages.{IsMessage, bits as bits_in};
 ghost use Rattle.bus_strings.specs.inside.Kept.{kept_message, AreKept};

@@ -1,5 +1,5 @@
 //! Which transmissions of a list garble each other.
-ghost use Rattle.std.specs.Prelude.{◌≡◌, ℕ, ◌<◌, length, take, slice_get, IsTrue, ◌↔◌, ◌||◌};
+ghost use Rattle.std.specs.Prelude.{◌≡◌, ◌<◌, length, take, slice_get, IsTrue, ◌↔◌, ◌||◌};
 ghost use Rattle.std.specs.Iterator.{YieldsFirst, item_count};
 ghost use Rattle.std.specs.List.{list_any};
 ghost use Rattle.bus_strings.specs.Messages.{Entry, IsMessage};

@@ -1,6 +1,6 @@
 //! How long a message is, and when it is on.
 ghost use Rattle.std.specs.Prelude.{◌≡◌, ◌+◌, ◌*◌, ◌<◌, ◌≤◌, length, sum_by};
-ghost use Rattle.bus_strings.specs.Limits.{most_strings, most_words, word_bits, inner_gap};
+ghost use Rattle.bus_strings.specs.Limits.{most_strings, most_words, word_bits};
 ghost use Rattle.bus_strings.specs.Messages.{IsMessage, word_count, bits, most_bits};
 ghost use Rattle.bus_strings.specs.Pulses.{pulse_start, pulse_length, is_on};
 

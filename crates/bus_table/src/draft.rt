@@ -163,9 +163,8 @@ impl Draft {
     ghost use Rattle.bus_text.specs.inside.Gives.{StepGives as FieldsGive};
     ghost use Rattle.bus_table.specs.inside.LineGives.{StepGives};
     ghost use Rattle.bus_table.specs.Reading.{step, table_of, judged};
-    ghost use Rattle.bus_table.specs.Stops.{stop_at, stop_in};
+    ghost use Rattle.bus_table.specs.Stops.{stop_in};
     ghost use Rattle.bus_table.specs.Valid.{is_in_range};
-    ghost use Rattle.std.specs.Prelude.{IfOk};
 
     /// What is known before the first line.
     pub fn new(alloc: Global) -> Draft

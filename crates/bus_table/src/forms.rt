@@ -1,5 +1,5 @@
 //! The forms of the lines of a table text.
-ghost use Rattle.std.specs.Prelude.{◌≡◌, ◌<◌, ◌≤◌, ◌^◌, ◌-◌, IfOk, IsTrue, true, Some, None, Ok, Err, if◌then◌else◌, length};
+ghost use Rattle.std.specs.Prelude.{◌≡◌, ◌<◌, ◌-◌, IfOk, IsTrue, true, Some, None, Ok, Err, if◌then◌else◌};
 ghost use Rattle.std.specs.Int.{is_in_range};
 ghost use Rattle.std.specs.Option.{option_map_or};
 ghost use Rattle.bus_text.specs.Entries.{texts};

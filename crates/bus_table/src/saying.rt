@@ -1,5 +1,5 @@
 //! The words of the reasons for which a table is refused as a whole, and for which an item doesn't fit.
-ghost use Rattle.std.specs.Prelude.{◌++◌, codes, decimal, [], ◌∷◌};
+ghost use Rattle.std.specs.Prelude.{◌++◌, decimal, [], ◌∷◌};
 ghost use Rattle.bus_outer.specs.Texts.{Adds};
 ghost use Rattle.bus_table.specs.Reasons.{fit_words, pair_words, whole_words};
 ghost use Rattle.bus_text.specs.Digits.{hex_digit, hexadecimal};

@@ -1,5 +1,5 @@
 //! The reasons against a table whose numbers are in their ranges.
-ghost use Rattle.std.specs.Prelude.{◌≡◌, ◌<◌, ◌==◌, false, [], ◌∷◌, ◌++◌, map, nat_le, Option, IfNone};
+ghost use Rattle.std.specs.Prelude.{◌≡◌, ◌<◌, ◌==◌, false, [], ◌++◌, Option, IfNone};
 ghost use Rattle.std.specs.List.{list_any, find};
 ghost use Rattle.std.specs.Option.{option_map};
 ghost use Rattle.bus_table.specs.declared.error.WholeReason.TheVariants.{NumberTwice};

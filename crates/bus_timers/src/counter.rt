@@ -1,5 +1,5 @@
 //! Timers kept as counters.
-ghost use Rattle.std.specs.Prelude.{◌≡◌, ℕ, ◌+◌, ◌-◌, ◌^◌, min, ◌<◌, ◌≤◌, Bool, true, false};
+ghost use Rattle.std.specs.Prelude.{◌≡◌, ◌+◌, ◌-◌, ◌^◌, min, ◌<◌, ◌≤◌, true, false};
 ghost use Rattle.bus_timers.specs.inside.Counters.{CoreStands, core_moves};
 
 use crate::cores::Core;

@@ -1,5 +1,5 @@
 //! A drill: the input that a number makes is run, and told in one line.
-ghost use Rattle.std.specs.Prelude.{◌≡◌, ◌++◌, ◌≤◌, IfOk, IfErr, codes, decimal, length};
+ghost use Rattle.std.specs.Prelude.{◌≡◌, ◌++◌, ◌≤◌, IfOk, IfErr, decimal};
 ghost use Rattle.bus_outer.specs.Sinks.{WritesText};
 ghost use Rattle.bus_outer.specs.Texts.{Adds};
 ghost use Rattle.bus_vectors.specs.Made.{most_number};

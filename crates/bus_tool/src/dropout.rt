@@ -3,7 +3,6 @@ ghost use Rattle.std.specs.Prelude.{◌≡◌, ◌≤◌, ◌<◌, IfErr, IfOk, 
 ghost use Rattle.bus_dropout.specs.DropOut.{LastIsLong};
 ghost use Rattle.bus_table.specs.declared.mode.Mode.TheVariants.{Aperiodic};
 ghost use Rattle.bus_table.specs.Hands.{are_hands};
-ghost use Rattle.bus_trace.specs.Traces.{IsTrace};
 ghost use Rattle.bus_command.specs.Kinds.{kind_of};
 ghost use Rattle.bus_command.specs.Stages.{Gives};
 ghost use Rattle.bus_command.specs.inside.Steps.{IsLate};

@@ -1,5 +1,5 @@
 //! The words of a command line, and what they ask for.
-ghost use Rattle.std.specs.Prelude.{◌≡◌, ◌≤◌, ◌<◌, ◌^◌, IfSome, Some, None, if◌then◌else◌};
+ghost use Rattle.std.specs.Prelude.{◌≡◌, ◌≤◌, ◌<◌, IfSome, Some, None, if◌then◌else◌};
 ghost use Rattle.bus_text.specs.Numbers.{decimal_value};
 ghost use Rattle.bus_tool.specs.Forms as forms;
 ghost use Rattle.bus_command.specs.Words.{words_of};

@@ -24,7 +24,7 @@ use bus_command::{Dealt, TEXT_LIMIT, Traced, take_hands, take_table, take_text};
 use bus_hands::{fits, hands};
 use bus_outer::Source;
 use bus_strings::Payloads;
-use bus_table::{FitError, Hand, Mode, Table};
+use bus_table::{Hand, Mode, Table};
 use bus_trace::Trace;
 use bus_wave::{WaveError, read_wave};
 use std::alloc::Global;

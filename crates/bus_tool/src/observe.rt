@@ -1,7 +1,6 @@
 //! The command `observe`: what a bus does up to a horizon.
-ghost use Rattle.std.specs.Prelude.{◌≡◌, ◌≤◌, ◌<◌, ◌^◌, length, IfErr, IfOk, IsTrue};
+ghost use Rattle.std.specs.Prelude.{◌≤◌, ◌<◌, IfOk};
 ghost use Rattle.std.specs.List.{AllByRecursion};
-ghost use Rattle.bus_table.specs.Hands.{are_hands};
 ghost use Rattle.bus_strings.specs.Limits.{horizon_limit};
 ghost use Rattle.bus_command.specs.Taken.{AreReady};
 ghost use Rattle.bus_tool.specs.inside.Acting.{EndsOnMessages};

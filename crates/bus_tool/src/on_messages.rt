@@ -1,5 +1,4 @@
 //! The commands on a table and messages.
-ghost use Rattle.std.specs.Prelude.{◌≡◌};
 ghost use Rattle.bus_command.specs.Taken.{AreReady};
 ghost use Rattle.bus_tool.specs.inside.Acting.{DoesBoth, EndsOnMessages, IsOfMode};
 ghost use Rattle.bus_tool.specs.Forms.{OnMessages, messages_mode, IsWithinHorizon};

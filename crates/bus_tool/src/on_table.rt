@@ -1,5 +1,4 @@
 //! The commands on a table.
-ghost use Rattle.std.specs.Prelude.{◌≡◌};
 ghost use Rattle.bus_tool.specs.inside.Acting.{DoesFirst, EndsOnTable, IsOfMode};
 ghost use Rattle.bus_tool.specs.Forms.{OnTable, table_mode, IsWithinDelay};
 

@@ -1,5 +1,4 @@
 //! The commands on a table and a trace.
-ghost use Rattle.std.specs.Prelude.{◌≡◌};
 ghost use Rattle.bus_tool.specs.inside.Acting.{DoesBoth, EndsOnTrace};
 ghost use Rattle.bus_tool.specs.Forms.{OnTrace, IsNear};
 ghost use Rattle.bus_trace.specs.Traces.{IsTrace};

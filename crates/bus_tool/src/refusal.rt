@@ -1,5 +1,5 @@
 //! What bus629 refuses beside what every command does.
-ghost use Rattle.std.specs.Prelude.{◌≡◌, ◌++◌, codes, decimal, List, [], ◌∷◌};
+ghost use Rattle.std.specs.Prelude.{◌≡◌, ◌++◌, codes, decimal, [], ◌∷◌};
 ghost use Rattle.bus_command.specs.Outcomes.{error_line};
 ghost use Rattle.bus_text.specs.Reasons.{reason_word};
 ghost use Rattle.bus_table.specs.Reasons.{fit_words};

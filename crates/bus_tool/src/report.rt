@@ -3,7 +3,6 @@ ghost use Rattle.std.specs.Prelude.{◌≡◌, ◌++◌, IfOk, codes, false, map
 ghost use Rattle.serde_json.specs.View.{view};
 ghost use Rattle.serde_json.specs.Written.{compact_text, has_float};
 ghost use Rattle.bus_table.specs.Turns.{turn_order};
-ghost use Rattle.bus_regime.specs.Lines as lines;
 ghost use Rattle.bus_regime.specs.Verdicts.{verdict_of};
 ghost use Rattle.bus_regime.specs.declared.table_verdict.TableVerdict.TheVariants as verdicts;
 ghost use Rattle.bus_tool.specs.inside.ReportData.{sender_data, report_data, IsLine, ArePlainWords};

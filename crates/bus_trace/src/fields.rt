@@ -1,5 +1,5 @@
 //! The fields of a line of a trace text.
-ghost use Rattle.std.specs.Prelude.{◌≡◌, ◌^◌, ◌-◌, ◌<◌, ◌==◌, nat_lt, length, true, IfOk, IfSome, Some, None, if◌then◌else◌};
+ghost use Rattle.std.specs.Prelude.{◌≡◌, ◌^◌, ◌-◌, ◌<◌, ◌==◌, nat_lt, true, IfOk, Some, None, if◌then◌else◌};
 ghost use Rattle.std.specs.Int.{is_in_range as in_numbers};
 ghost use Rattle.bus_text.specs.Entries.{texts};
 ghost use Rattle.bus_text.specs.Numbers.{is_plain_decimal as decimal_test, decimal_value};

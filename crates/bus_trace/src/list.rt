@@ -1,5 +1,5 @@
 //! The transmissions of a trace, as its lines add to them.
-ghost use Rattle.std.specs.Prelude.{◌≡◌, ◌<◌, ◌≤◌, length, [], ◌∷◌, ◌++◌, ◌^◌, IfOk, OnOk, OnErr};
+ghost use Rattle.std.specs.Prelude.{◌≡◌, ◌<◌, ◌≤◌, [], ◌∷◌, ◌++◌, ◌^◌, OnOk, OnErr};
 ghost use Rattle.bus_strings.specs.Limits.{horizon_limit, most_terminal, most_strings};
 ghost use Rattle.bus_trace.specs.States.{last_count as count_of, last_terminal as last_of, comes_after as comes_test};
 ghost use Rattle.bus_trace.specs.States.{is_after as after_test, with_string, more_list};

@@ -1,5 +1,5 @@
 //! A trace: what was sent up to a horizon.
-ghost use Rattle.std.specs.Prelude.{◌≡◌, ◌↔◌, ◌<◌, IsSome, IfSome, IsTrue, true, length, slice_get};
+ghost use Rattle.std.specs.Prelude.{◌≡◌, ◌↔◌, ◌<◌, IsSome, IfSome, length, slice_get};
 ghost use Rattle.bus_strings.specs.Transmissions.{end_of, garbled as garbled_in};
 
 use crate::hold::Hold;

@@ -1,16 +1,15 @@
 //! The word texts of a WS line.
-ghost use Rattle.std.specs.Prelude.{◌≡◌, ◌+◌, ◌<◌, ◌≤◌, ◌&&◌, true, length, map, IfOk, Some, None, if◌then◌else◌};
+ghost use Rattle.std.specs.Prelude.{◌≡◌, ◌+◌, ◌<◌, ◌≤◌, ◌&&◌, length, map, IfOk, Some, None};
 ghost use Rattle.std.specs.List.{list_all};
 ghost use Rattle.bus_strings.specs.Limits.{most_words};
 ghost use Rattle.bus_text.specs.Entries.{texts};
 ghost use Rattle.bus_words.specs.declared.word.Kind.TheVariants.{Plain};
-ghost use Rattle.bus_words.specs.WordTexts.{written_frame};
 ghost use Rattle.bus_trace.specs.WordFields.{same_kind as same_test, is_spelled as spelled_test, has_parity as parity_test};
 ghost use Rattle.bus_trace.specs.WordFields.{value_of as value_in, are_spelled as all_spelled, have_parity as all_parity, string_of};
 
 use bus_strings::Wordstring;
 use bus_text::{field_at, fields_from};
-use bus_words::{FramedWord, Kind, read_frame, read_word, split_label};
+use bus_words::{Kind, read_frame, read_word, split_label};
 use std::alloc::{AllocError, Global};
 
 /// Whether two kinds are the same.

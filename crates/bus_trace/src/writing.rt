@@ -1,5 +1,4 @@
 //! Writing the text of a trace, in format 2.
-ghost use Rattle.std.specs.Prelude.{◌≡◌, ◌++◌, codes, length};
 ghost use Rattle.std.specs.List.{flat_map};
 ghost use Rattle.bus_strings.specs.Transmissions.{IsByMoment, IsClear};
 ghost use Rattle.bus_outer.specs.Sinks.{WritesText};

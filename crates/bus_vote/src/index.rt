@@ -83,7 +83,7 @@ pub(crate) struct Index<'a> {
 }
 
 impl<'a> Model for Index<'a> {
-    ghost use Rattle.std.specs.Prelude.{◌≡◌, ℕ, List, length, true};
+    ghost use Rattle.std.specs.Prelude.{◌≡◌, List, length, true};
     ghost use Rattle.bus_strings.specs.Messages.{Entry};
     ghost use Rattle.bus_vote.specs.inside.Finds.{finds_before};
     ghost use Rattle.bus_vote.specs.inside.Walks.{IsSent};

@@ -1,5 +1,5 @@
 //! Which label of a table is voted on, and which its channels are.
-ghost use Rattle.std.specs.Prelude.{◌≡◌, List, [], ◌∷◌, ◌++◌};
+ghost use Rattle.std.specs.Prelude.{◌≡◌, List, ◌++◌};
 ghost use Rattle.bus_vote.specs.Labels.{Channel as Channel_in, channels, sender_channels, voted as voted_in};
 ghost use Rattle.bus_vote.specs.inside.Scans.{line_channels, seen};
 

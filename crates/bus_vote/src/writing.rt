@@ -1,10 +1,9 @@
 //! The text of the votes.
-ghost use Rattle.std.specs.Prelude.{◌≡◌, ◌<◌, ◌≤◌, ◌++◌, ℕ, IfSome, IsTrue, Some, length, map, slice_get};
+ghost use Rattle.std.specs.Prelude.{◌≡◌, ◌<◌, ℕ, IfSome, IsTrue, Some, length, slice_get};
 ghost use Rattle.std.specs.List.{flat_map, range_with_len};
 ghost use Rattle.std.specs.Option.{option_copied};
 ghost use Rattle.bus_outer.specs.Sinks.{WritesText};
 ghost use Rattle.bus_outer.specs.Texts.{Adds};
-ghost use Rattle.bus_table.specs.Valid.{is_valid};
 ghost use Rattle.bus_vote.specs.inside.Finds.{AreFinds};
 ghost use Rattle.bus_vote.specs.Labels.{labels};
 ghost use Rattle.bus_vote.specs.inside.Putting.{words_put, round_put, label_put};

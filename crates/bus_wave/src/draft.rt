@@ -1,13 +1,9 @@
 //! What the lines of a wave text have given so far, and what a further line makes of it.
-ghost use Rattle.std.specs.Prelude.{◌≡◌, ◌+◌, ◌*◌, ◌-◌, ◌/◌, ◌%◌, ◌<◌, ◌≤◌, ◌&&◌, ◌==◌, ◌++◌, ◌∷◌, [], true, false, length, find, IfOk};
-ghost use Rattle.std.specs.Prelude.{OnOk, vec_len, Some};
-ghost use Rattle.std.specs.List.{list_all, AllByRecursion};
-ghost use Rattle.std.specs.Option.{option_copied};
+ghost use Rattle.std.specs.Prelude.{◌≡◌, ◌+◌, ◌*◌, ◌-◌, ◌/◌, ◌%◌, ◌<◌, ◌≤◌, ◌&&◌, ◌==◌, ◌++◌, ◌∷◌, [], true, length, find};
+ghost use Rattle.std.specs.Prelude.{OnOk, Some};
 ghost use Rattle.bus_words.specs.declared.word.Kind.TheVariants as kind;
 ghost use Rattle.bus_strings.specs.Limits.{horizon_limit, most_strings, most_terminal, most_words};
-ghost use Rattle.bus_table.specs.Ranges.{is_send_line};
 ghost use Rattle.bus_wave.specs.declared.symbol.Symbol.TheVariants.{Quiet, Sent, End};
-ghost use Rattle.bus_wave.specs.inside.Capped.{cap};
 ghost use Rattle.bus_wave.specs.inside.Drafts.{Keeps, begun_of, state_of};
 ghost use Rattle.bus_text.specs.inside.Gives.{StepGives};
 ghost use Rattle.bus_wave.specs.Reading.{is_closed as closed_test};

@@ -1,6 +1,6 @@
 //! Lines that are spelled as they are written, recognized in one look: no fields are cut out. What isn't recognized here is judged field by
 //! field.
-ghost use Rattle.std.specs.Prelude.{◌≡◌, ◌+◌, ◌*◌, ◌/◌, ◌<◌, ◌≤◌, ◌^◌, ◌++◌, ◌∷◌, IfSome, Ok, true, length};
+ghost use Rattle.std.specs.Prelude.{◌≡◌, ◌+◌, ◌/◌, ◌<◌, ◌^◌, ◌++◌, ◌∷◌, IfSome, Ok, length};
 ghost use Rattle.bus_wave.specs.declared.symbol.Symbol.TheVariants.{Quiet};
 ghost use Rattle.bus_wave.specs.Code.{digits_of};
 ghost use Rattle.bus_wave.specs.inside.Digits as spec;

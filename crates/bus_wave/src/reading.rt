@@ -1,9 +1,8 @@
 //! Reading a wave text back into a trace.
-ghost use Rattle.std.specs.Prelude.{◌≡◌, ◌+◌, ◌<◌, ◌≤◌, ◌^◌, ◌-◌, ◌&&◌, ◌==◌, length, IsTrue, IfOk, OnOk, Ok};
+ghost use Rattle.std.specs.Prelude.{◌≡◌, ◌+◌, ◌<◌, ◌≤◌, ◌-◌, ◌&&◌, ◌==◌, length, IfOk, OnOk, Ok};
 ghost use Rattle.std.specs.List.{slice_split};
 ghost use Rattle.bus_text.specs.Gives.{Gives};
 ghost use Rattle.bus_text.specs.Lines.{is_feed};
-ghost use Rattle.bus_table.specs.Valid.{is_valid};
 ghost use Rattle.bus_trace.specs.Traces.{Recording};
 ghost use Rattle.bus_wave.specs.inside.Drafts.{Keeps, state_of};
 ghost use Rattle.bus_text.specs.inside.Gives.{StepGives};

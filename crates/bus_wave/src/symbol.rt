@@ -1,7 +1,7 @@
 //! What a line of a wave text says by itself.
-ghost use Rattle.std.specs.Prelude.{◌≡◌, ◌==◌, ◌^◌, ◌-◌, ◌<◌, ◌∷◌, []};
-ghost use Rattle.std.specs.Prelude.{MatchOption, IfOk, IfErr, false, true, length, codes, slice_index_or};
-ghost use Rattle.std.specs.Prelude.{Ok, Err, if◌then◌else◌};
+ghost use Rattle.std.specs.Prelude.{◌≡◌, ◌==◌, ◌-◌, ◌<◌, ◌∷◌, []};
+ghost use Rattle.std.specs.Prelude.{MatchOption, IfOk, IfErr, false, true, length, slice_index_or};
+ghost use Rattle.std.specs.Prelude.{Ok, Err};
 ghost use Rattle.bus_trace.specs.States.{spaced_fields};
 ghost use Rattle.bus_wave.specs.Symbols.{head_reading, symbol_reading, word_reading, quiet_reading};
 ghost use Rattle.bus_wave.specs.inside.Capped.{capped};

@@ -1,5 +1,5 @@
 //! Writing the wave of a spaced trace.
-ghost use Rattle.std.specs.Prelude.{◌≡◌, ◌-◌, ◌++◌, codes, [], length};
+ghost use Rattle.std.specs.Prelude.{◌≡◌, ◌-◌};
 ghost use Rattle.std.specs.List.{flat_map};
 ghost use Rattle.bus_outer.specs.Sinks.{WritesText};
 ghost use Rattle.bus_outer.specs.Texts.{Adds};

@@ -1,5 +1,5 @@
 //! Words: their kind, their value, and their parity bit.
-ghost use Rattle.std.specs.Prelude.{◌≡◌, ◌≢◌, ◌+◌, ◌*◌, ◌%◌, ◌<◌, ◌↔◌, ◌^◌, ℕ, IsTrue, IfOk, IfErr, Ok, count_ones};
+ghost use Rattle.std.specs.Prelude.{◌≡◌, ◌≢◌, ◌+◌, ◌*◌, ◌%◌, ◌<◌, ◌↔◌, ℕ, IsTrue, IfOk, IfErr, Ok, count_ones};
 ghost use Rattle.bus_words.specs.Words.{parity as parity_of, frame as frame_of, unframe as unframed};
 ghost use Rattle.bus_words.specs.Words.{label_word as word_of, data_word as data_of};
 
