@@ -163,7 +163,7 @@ fn overlapping(list: &[Transmission], entry: &Transmission) -> usize {
 #[test]
 fn a_garbled_transmission_overlaps_more_than_itself(rt: HostRuntime) -> Result<(), Fail> {
     let list = nine(rt.alloc())?;
-    assert!(rt; is_by_moment(&list));
+    assert!(rt; list.len() == 9 && is_by_moment(&list));
     for (k, entry) in list.iter().enumerate() {
         assert!(rt;
             garbled(&list, k) == (1 < overlapping(&list, entry)),

@@ -160,7 +160,7 @@ fn the_first_reason_of_a_wrong_wake_or_item_is_told(rt: HostRuntime) {
     }
 }
 
-/// Whether a cable has these places.
+/// Whether a cable can have these places.
 fn has_places(alloc: Global, places: &[(u8, u64)]) -> Result<bool, AllocError> {
     let mut named = Vec::new(alloc);
     for (terminal, bits) in places {

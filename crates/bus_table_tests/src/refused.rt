@@ -34,7 +34,7 @@ fn with_head(alloc: Global, lines: &[u8]) -> Result<Vec<u8>, AllocError> {
 /// A text, or the lines behind `HEAD`, the line where it is refused, and why.
 type Row<'a> = (&'a [u8], u64, Reason);
 
-const HEADS: [Row<'static>; 7] = [
+const HEADS: [Row<'static>; 6] = [
     (b"", 1, Reason::Ended),
     (
         b"TABLE 1\nMODE aperiodic\nTI 999\nSG 300\n",
@@ -53,17 +53,15 @@ const HEADS: [Row<'static>; 7] = [
         7,
         Reason::Spelling,
     ),
-    (
-        b"TABLE 1\nMODE periodic\nTI 2000\nSG 300\nSENDER 1 TG 20\n",
-        5,
-        Reason::Fields,
-    ),
 ];
 
 #[test]
 fn names_the_first_line_and_reason_of_a_head(rt: HostRuntime) {
-    for (text, line, reason) in &HEADS {
-        assert!(rt; refusal(rt.alloc(), text) == Some((*line, *reason)));
+    for (k, (text, line, reason)) in HEADS.iter().enumerate() {
+        assert!(rt;
+            refusal(rt.alloc(), text) == Some((*line, *reason)),
+            "row {k}"
+        );
     }
 }
 
@@ -87,10 +85,15 @@ const TERMINALS: [Row<'static>; 10] = [
 
 #[test]
 fn names_the_first_line_and_reason_of_a_terminal(rt: HostRuntime) -> Result<(), Fail> {
-    for (lines, line, reason) in &TERMINALS {
+    for (k, (lines, line, reason)) in TERMINALS.iter().enumerate() {
         let text = with_head(rt.alloc(), lines)?;
-        assert!(rt; refusal(rt.alloc(), &text) == Some((*line, *reason)));
+        assert!(rt;
+            refusal(rt.alloc(), &text) == Some((*line, *reason)),
+            "row {k}"
+        );
     }
+    let text = b"TABLE 1\nMODE periodic\nTI 2000\nSG 300\nSENDER 1 TG 20\n";
+    assert!(rt; refusal(rt.alloc(), text) == Some((5, Reason::Fields)));
     Ok(())
 }
 

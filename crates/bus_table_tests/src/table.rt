@@ -11,7 +11,9 @@ const TWO_SENDERS: &[u8] =
 
 /// The number, the terminal gap and the offset of the second of two senders, and its only SEND line; it takes nothing.
 fn second_sender(table: &Table) -> Option<((u8, u32, u32), SendLine)> {
-    let second = table.senders().get(1)?;
+    let [_, second] = table.senders() else {
+        return None;
+    };
     match (second.sends(), second.takes()) {
         ([line], []) => Some(((second.number(), second.tg(), second.at()), *line)),
         _ => None,

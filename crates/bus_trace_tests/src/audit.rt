@@ -50,6 +50,7 @@ fn trace_text(alloc: Global, head: &[u8], sent: &[u8]) -> Result<Vec<u8>, AllocE
 /// What the audit says: how many transmissions of a lawful trace collide, or when, of whom and of which kind the first breach is.
 pub(crate) type Said = Result<u64, (u64, u8, BreachKind)>;
 
+/// What the audit of a table says of a trace of these lines and of what was sent.
 pub(crate) fn said(alloc: Global, table: &[u8], head: &[u8], sent: &[u8]) -> Result<Said, Fail> {
     let table = read_table(alloc, table)?;
     let mut source = MemorySource::new(trace_text(alloc, head, sent)?, 7, Vec::new(alloc));

@@ -75,19 +75,23 @@ fn wordstring(alloc: Global, part: &Part<'_>) -> Result<Wordstring, Fail> {
     }
 }
 
-/// A message of these wordstrings.
+/// A message of one wordstring or two.
 fn message(alloc: Global, parts: &[Part<'_>]) -> Result<Message, Fail> {
-    let mut strings = Vec::new(alloc);
-    for part in parts {
-        strings.push(wordstring(alloc, part)?)?;
+    match parts {
+        [only] => Ok(Message::one(alloc, wordstring(alloc, only)?)),
+        [first, second] => {
+            let mut message = Message::one(alloc, wordstring(alloc, first)?);
+            message.push(wordstring(alloc, second)?)?;
+            Ok(message)
+        }
+        _ => Err(Fail::new("no message")),
     }
-    Ok(Message::new(strings).ok_or("no message")?)
 }
 
 /// The moment of a transmission, its terminal and its wordstrings.
 type Sending<'a> = (u64, u8, &'a [Part<'a>]);
 
-/// A list of these.
+/// A list of these, up to moment 2000.
 fn sent(alloc: Global, sendings: &[Sending<'_>]) -> Result<Vec<Transmission>, Fail> {
     let mut list = Vec::new(alloc);
     for (moment, terminal, parts) in sendings {
@@ -172,15 +176,19 @@ END
     )
 }
 
+const GARBLED: &[Sending<'static>] = &[
+    (20, 1, &[(0x0A1, 1, &[0, 1])]),
+    (79, 2, &[(0x0B2, 1, &[])]),
+];
+
 #[test]
 fn garbled_words_are_not_received(rt: HostRuntime) -> Result<(), Fail> {
-    let sendings: &[Sending<'_>] = &[(20, 1, &[(0x0A1, 1, &[0, 1])]), (79, 2, &[(0x0B2, 1, &[])])];
     let want = b"RECEIVED 1\nTERMINAL 1\nTERMINAL 2\nTERMINAL 3\nEND\n";
     is_received(
         &rt,
         rt.alloc(),
         TWO_SENDERS_AND_A_LISTENER,
-        sendings,
+        GARBLED,
         (0, want),
     )
 }
@@ -188,7 +196,7 @@ fn garbled_words_are_not_received(rt: HostRuntime) -> Result<(), Fail> {
 #[test]
 fn a_failed_push_is_a_fault(rt: HostRuntime) -> Result<(), Fail> {
     let table = read_table(rt.alloc(), TWO_SENDERS_AND_A_LISTENER)?;
-    let list = sent(rt.alloc(), &[(20, 1, &[(0x0A1, 1, &[0, 1])])])?;
+    let list = sent(rt.alloc(), GARBLED)?;
     assert!(rt; is_by_moment(&list));
     let failing = vec![in rt.alloc(); 0u64]?;
     let mut sink = MemorySink::new(rt.alloc(), 1000, 1000, failing)?;

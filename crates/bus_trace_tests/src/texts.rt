@@ -46,7 +46,7 @@ pub(crate) fn text_of(alloc: Global, lines: &[(&[u8], usize)]) -> Result<Vec<u8>
     Ok(text)
 }
 
-pub(crate) fn read(alloc: Global, text: &[u8]) -> Result<Result<Trace, TraceError>, Fail> {
+fn read(alloc: Global, text: &[u8]) -> Result<Result<Trace, TraceError>, Fail> {
     let mut source = MemorySource::new(Vec::from_slice(alloc, text)?, 7, Vec::new(alloc));
     Ok(read_trace(alloc, &mut source))
 }
@@ -125,7 +125,7 @@ fn ends_there(alloc: Global, lines: &[(&[u8], usize)], cut: usize) -> Result<boo
 }
 
 /// Each cut before this one is refused where its last line begins.
-fn end_there(
+fn each_cut_ends_there(
     rt: &impl Abort,
     alloc: Global,
     lines: &[(&[u8], usize)],
@@ -139,8 +139,8 @@ fn end_there(
 
 #[test]
 fn a_cut_trace_ends_where_its_last_line_begins(rt: HostRuntime) -> Result<(), Fail> {
-    end_there(&rt, rt.alloc(), &LINES, 117)?;
-    end_there(&rt, rt.alloc(), &OLD_LINES, 100)
+    each_cut_ends_there(&rt, rt.alloc(), &LINES, 117)?;
+    each_cut_ends_there(&rt, rt.alloc(), &OLD_LINES, 100)
 }
 
 /// Why a text with one line changed is refused, if it is.
