@@ -17,63 +17,103 @@ const BEGIN: &[u8] =
 /// The least terminal gap is as long as the quiet within a message that a terminal may hear.
 #[test]
 fn hearing_holds_by_nothing(rt: HostRuntime) -> Result<(), Fail> {
-    let wanted =
-        b"MARGINS periodic turns 2000000 2001999\nROOM hearing 1 - 0\nROOM sync 2 - 1648002\nROOM order 2 2 1 22000\nROOM begin 2 1 8001\nBEARS delay 1999 jitter 0 clocks 0\n";
+    let wanted = b"MARGINS periodic turns 2000000 2001999
+ROOM hearing 1 - 0
+ROOM sync 2 - 1648002
+ROOM order 2 2 1 22000
+ROOM begin 2 1 8001
+BEARS delay 1999 jitter 0 clocks 0
+";
     has_margins(&rt, HEARING, (1999, 0, 0), wanted)
 }
 
 /// It is shorter by a nanosecond.
 #[test]
 fn hearing_lacks_a_nanosecond(rt: HostRuntime) -> Result<(), Fail> {
-    let wanted =
-        b"MARGINS periodic none - -\nROOM hearing 1 - -1\nROOM sync 2 - 1648001\nROOM order 2 2 1 21999\nROOM begin 2 1 8000\nBEARS delay - jitter - clocks -\n";
+    let wanted = b"MARGINS periodic none - -
+ROOM hearing 1 - -1
+ROOM sync 2 - 1648001
+ROOM order 2 2 1 21999
+ROOM begin 2 1 8000
+BEARS delay - jitter - clocks -
+";
     has_margins(&rt, HEARING, (2000, 0, 0), wanted)
 }
 
 /// In an interval all send, and there is just the quiet that synchronizes one that waits for it.
 #[test]
 fn sync_holds_by_nothing(rt: HostRuntime) -> Result<(), Fail> {
-    let wanted =
-        b"MARGINS periodic turns 500000 500001\nROOM hearing 1 - 7998\nROOM sync 2 - 0\nROOM order 2 2 1 29998\nROOM begin 2 1 14999\nBEARS delay 1 jitter 0 clocks 996\n";
+    let wanted = b"MARGINS periodic turns 500000 500001
+ROOM hearing 1 - 7998
+ROOM sync 2 - 0
+ROOM order 2 2 1 29998
+ROOM begin 2 1 14999
+BEARS delay 1 jitter 0 clocks 996
+";
     has_margins(&rt, SYNC, (1, 0, 0), wanted)
 }
 
 /// It is shorter by a nanosecond.
 #[test]
 fn sync_lacks_a_nanosecond(rt: HostRuntime) -> Result<(), Fail> {
-    let wanted =
-        b"MARGINS periodic leads 459998 540002\nROOM hearing 1 - 7997\nROOM sync 2 - -1\nROOM order 2 2 1 29997\nROOM begin 2 1 14998\nBEARS delay 7999 jitter 0 clocks 0\n";
+    let wanted = b"MARGINS periodic leads 459998 540002
+ROOM hearing 1 - 7997
+ROOM sync 2 - -1
+ROOM order 2 2 1 29997
+ROOM begin 2 1 14998
+BEARS delay 7999 jitter 0 clocks 0
+";
     has_margins(&rt, SYNC, (2, 0, 0), wanted)
 }
 
 /// Clocks drift over an interval by as much as a message and a gap bear.
 #[test]
 fn order_holds_by_nothing(rt: HostRuntime) -> Result<(), Fail> {
-    let wanted =
-        b"MARGINS periodic turns 63987197 64017206\nROOM hearing 1 - 3610\nROOM sync 2 - 63653343\nROOM order 2 2 1 0\nROOM begin 2 1 10550\nBEARS delay 4385 jitter 0 clocks 200\n";
+    let wanted = b"MARGINS periodic turns 63987197 64017206
+ROOM hearing 1 - 3610
+ROOM sync 2 - 63653343
+ROOM order 2 2 1 0
+ROOM begin 2 1 10550
+BEARS delay 4385 jitter 0 clocks 200
+";
     has_margins(&rt, ORDER, (4385, 0, 200), wanted)
 }
 
 /// They drift by a nanosecond more.
 #[test]
 fn order_lacks_a_nanosecond(rt: HostRuntime) -> Result<(), Fail> {
-    let wanted =
-        b"MARGINS periodic none - -\nROOM hearing 1 - 3609\nROOM sync 2 - 63653342\nROOM order 2 2 1 -1\nROOM begin 2 1 10549\nBEARS delay - jitter - clocks -\n";
+    let wanted = b"MARGINS periodic none - -
+ROOM hearing 1 - 3609
+ROOM sync 2 - 63653342
+ROOM order 2 2 1 -1
+ROOM begin 2 1 10549
+BEARS delay - jitter - clocks -
+";
     has_margins(&rt, ORDER, (4386, 0, 200), wanted)
 }
 
 /// The second sender is due just when the first has been heard and its gap has elapsed.
 #[test]
 fn begin_holds_by_nothing(rt: HostRuntime) -> Result<(), Fail> {
-    let wanted =
-        b"MARGINS periodic turns 2000000 2005000\nROOM hearing 1 - 2999\nROOM sync 2 - 1640001\nROOM order 2 2 1 24999\nROOM begin 1 2 0\nBEARS delay 5000 jitter 0 clocks 0\n";
+    let wanted = b"MARGINS periodic turns 2000000 2005000
+ROOM hearing 1 - 2999
+ROOM sync 2 - 1640001
+ROOM order 2 2 1 24999
+ROOM begin 1 2 0
+BEARS delay 5000 jitter 0 clocks 0
+";
     has_margins(&rt, BEGIN, (5000, 0, 0), wanted)
 }
 
 /// It is due a nanosecond too early.
 #[test]
 fn begin_lacks_a_nanosecond(rt: HostRuntime) -> Result<(), Fail> {
-    let wanted =
-        b"MARGINS periodic none - -\nROOM hearing 1 - 2999\nROOM sync 2 - 1640009\nROOM order 2 2 1 24977\nROOM begin 1 2 -1\nBEARS delay - jitter - clocks -\n";
+    let wanted = b"MARGINS periodic none - -
+ROOM hearing 1 - 2999
+ROOM sync 2 - 1640009
+ROOM order 2 2 1 24977
+ROOM begin 1 2 -1
+BEARS delay - jitter - clocks -
+";
     has_margins(&rt, BEGIN, (4998, 0, 5), wanted)
 }

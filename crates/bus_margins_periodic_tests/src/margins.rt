@@ -6,14 +6,41 @@ use bus_table::{Mode, read_table};
 use std::process::Abort;
 use std::test::Fail;
 
-const DRIFT: &[u8] =
-    b"TABLE 1\nMODE periodic\nTI 2000\nSG 300\nSENDER 1 TG 30 AT 0\nSEND 001 0 0 2\nSENDER 2 TG 60 AT 120\nSEND 002 0 0 0\nSENDER 3 TG 20 AT 160\nSEND 003 0 0 0\n";
+const DRIFT: &[u8] = b"TABLE 1
+MODE periodic
+TI 2000
+SG 300
+SENDER 1 TG 30 AT 0
+SEND 001 0 0 2
+SENDER 2 TG 60 AT 120
+SEND 002 0 0 0
+SENDER 3 TG 20 AT 160
+SEND 003 0 0 0
+";
 
-const FIXED_LENGTHS: &[u8] =
-    b"TABLE 1\nMODE periodic\nTI 2000\nSG 300\nSENDER 1 TG 30 AT 0\nSEND 001 0 2 2\nSENDER 2 TG 60 AT 120\nSEND 002 0 0 0\nSENDER 3 TG 20 AT 160\nSEND 003 0 0 0\n";
+const FIXED_LENGTHS: &[u8] = b"TABLE 1
+MODE periodic
+TI 2000
+SG 300
+SENDER 1 TG 30 AT 0
+SEND 001 0 2 2
+SENDER 2 TG 60 AT 120
+SEND 002 0 0 0
+SENDER 3 TG 20 AT 160
+SEND 003 0 0 0
+";
 
-const ASCENDING_GAPS: &[u8] =
-    b"TABLE 1\nMODE periodic\nTI 2000\nSG 300\nSENDER 1 TG 30 AT 0\nSEND 001 0 0 2\nSENDER 2 TG 20 AT 120\nSEND 002 0 0 0\nSENDER 3 TG 60 AT 200\nSEND 003 0 0 0\n";
+const ASCENDING_GAPS: &[u8] = b"TABLE 1
+MODE periodic
+TI 2000
+SG 300
+SENDER 1 TG 30 AT 0
+SEND 001 0 0 2
+SENDER 2 TG 20 AT 120
+SEND 002 0 0 0
+SENDER 3 TG 60 AT 200
+SEND 003 0 0 0
+";
 
 const TWO_SENDERS: &[u8] =
     b"TABLE 1\nMODE periodic\nTI 2000\nSG 300\nSENDER 1 TG 20 AT 0\nSEND 0A1 1 2 2\nSENDER 2 TG 30 AT 90\nSEND 0B2 1 30 30\n";
@@ -24,14 +51,49 @@ const VARYING: &[u8] =
 const GREAT_GAPS: &[u8] =
     b"TABLE 1\nMODE periodic\nTI 1354\nSG 257\nSENDER 1 TG 256 AT 0\nSEND 001 0 20 20\nSENDER 2 TG 255 AT 677\nSEND 002 0 20 20\n";
 
-const FOUR_SENDERS: &[u8] =
-    b"TABLE 1\nMODE periodic\nTI 1423\nSG 300\nSENDER 1 TG 20 AT 0\nSEND 001 0 8 8\nSENDER 2 TG 30 AT 215\nSEND 002 0 8 8\nSENDER 3 TG 40 AT 699\nSEND 003 0 8 8\nSENDER 4 TG 50 AT 939\nSEND 004 0 8 8\n";
+const FOUR_SENDERS: &[u8] = b"TABLE 1
+MODE periodic
+TI 1423
+SG 300
+SENDER 1 TG 20 AT 0
+SEND 001 0 8 8
+SENDER 2 TG 30 AT 215
+SEND 002 0 8 8
+SENDER 3 TG 40 AT 699
+SEND 003 0 8 8
+SENDER 4 TG 50 AT 939
+SEND 004 0 8 8
+";
 
-const FOUR_SENDERS_APART: &[u8] =
-    b"TABLE 1\nMODE periodic\nTI 1663\nSG 300\nSENDER 1 TG 20 AT 0\nSEND 001 0 8 8\nSENDER 2 TG 30 AT 220\nSEND 002 0 8 8\nSENDER 3 TG 40 AT 701\nSEND 003 0 8 8\nSENDER 4 TG 50 AT 1182\nSEND 004 0 8 8\n";
+const FOUR_SENDERS_APART: &[u8] = b"TABLE 1
+MODE periodic
+TI 1663
+SG 300
+SENDER 1 TG 20 AT 0
+SEND 001 0 8 8
+SENDER 2 TG 30 AT 220
+SEND 002 0 8 8
+SENDER 3 TG 40 AT 701
+SEND 003 0 8 8
+SENDER 4 TG 50 AT 1182
+SEND 004 0 8 8
+";
 
-const FIVE: &[u8] =
-    b"TABLE 1\nMODE periodic\nTI 4000\nSG 300\nSENDER 1 TG 10 AT 0\nSEND 101 1 8 8\nSENDER 2 TG 15 AT 200\nSEND 102 1 16 16\nSENDER 3 TG 20 AT 570\nSEND 103 1 4 12\nSENDER 4 TG 25 AT 860\nSEND 104 1 6 6\nSENDER 5 TG 30 AT 1040\nSEND 105 1 2 4\n";
+const FIVE: &[u8] = b"TABLE 1
+MODE periodic
+TI 4000
+SG 300
+SENDER 1 TG 10 AT 0
+SEND 101 1 8 8
+SENDER 2 TG 15 AT 200
+SEND 102 1 16 16
+SENDER 3 TG 20 AT 570
+SEND 103 1 4 12
+SENDER 4 TG 25 AT 860
+SEND 104 1 6 6
+SENDER 5 TG 30 AT 1040
+SEND 105 1 2 4
+";
 
 const ALONE: &[u8] =
     b"TABLE 1\nMODE periodic\nTI 128000\nSG 300\nSENDER 1 TG 20 AT 0\nSEND 001 0 0 0\n";
@@ -60,103 +122,167 @@ pub(crate) fn has_margins(
 /// A long message of the first holds the second back until the third is due, where clocks are 50 millionths apart.
 #[test]
 fn a_table_that_is_accepted_may_be_overtaken(rt: HostRuntime) -> Result<(), Fail> {
-    let wanted =
-        b"MARGINS periodic none - -\nROOM hearing 3 - 7997\nROOM sync 2 - 470023\nROOM order 1 2 3 -112\nROOM begin 2 3 -29\nBEARS delay - jitter - clocks -\n";
+    let wanted = b"MARGINS periodic none - -
+ROOM hearing 3 - 7997
+ROOM sync 2 - 470023
+ROOM order 1 2 3 -112
+ROOM begin 2 3 -29
+BEARS delay - jitter - clocks -
+";
     has_margins(&rt, DRIFT, (0, 0, 50), wanted)
 }
 
 /// So it does where clocks are exact and power-ups differ: by one nanosecond.
 #[test]
 fn with_exact_clocks_it_lacks_one_nanosecond(rt: HostRuntime) -> Result<(), Fail> {
-    let wanted =
-        b"MARGINS periodic none - -\nROOM hearing 3 - 7999\nROOM sync 2 - 470002\nROOM order 1 2 3 -1\nROOM begin 1 2 0\nBEARS delay - jitter - clocks -\n";
+    let wanted = b"MARGINS periodic none - -
+ROOM hearing 3 - 7999
+ROOM sync 2 - 470002
+ROOM order 1 2 3 -1
+ROOM begin 1 2 0
+BEARS delay - jitter - clocks -
+";
     has_margins(&rt, DRIFT, (0, 0, 0), wanted)
 }
 
 /// With messages of fixed length nobody is overtaken.
 #[test]
 fn fixed_lengths_keep_turns(rt: HostRuntime) -> Result<(), Fail> {
-    let wanted =
-        b"MARGINS periodic turns 1000000 1000000\nROOM hearing 3 - 7999\nROOM sync 2 - 470002\nROOM order 1 2 3 19999\nROOM begin 1 2 0\nBEARS delay 0 jitter 0 clocks 0\n";
+    let wanted = b"MARGINS periodic turns 1000000 1000000
+ROOM hearing 3 - 7999
+ROOM sync 2 - 470002
+ROOM order 1 2 3 19999
+ROOM begin 1 2 0
+BEARS delay 0 jitter 0 clocks 0
+";
     has_margins(&rt, FIXED_LENGTHS, (0, 0, 0), wanted)
 }
 
 /// Nor where terminal gaps ascend in turn order.
 #[test]
 fn ascending_gaps_keep_turns(rt: HostRuntime) -> Result<(), Fail> {
-    let wanted =
-        b"MARGINS periodic turns 1000000 1020000\nROOM hearing 2 - 7999\nROOM sync 3 - 470002\nROOM order 1 1 2 19999\nROOM begin 2 3 0\nBEARS delay 0 jitter 0 clocks 0\n";
+    let wanted = b"MARGINS periodic turns 1000000 1020000
+ROOM hearing 2 - 7999
+ROOM sync 3 - 470002
+ROOM order 1 1 2 19999
+ROOM begin 2 3 0
+BEARS delay 0 jitter 0 clocks 0
+";
     has_margins(&rt, ASCENDING_GAPS, (0, 0, 0), wanted)
 }
 
 /// Two senders whose first round is as close as may be.
 #[test]
 fn two_senders_keep_turns(rt: HostRuntime) -> Result<(), Fail> {
-    let wanted =
-        b"MARGINS periodic turns 1000000 1000000\nROOM hearing 1 - 7999\nROOM sync 2 - 345001\nROOM order 1 1 2 44999\nROOM begin 1 2 0\nBEARS delay 0 jitter 0 clocks 0\n";
+    let wanted = b"MARGINS periodic turns 1000000 1000000
+ROOM hearing 1 - 7999
+ROOM sync 2 - 345001
+ROOM order 1 1 2 44999
+ROOM begin 1 2 0
+BEARS delay 0 jitter 0 clocks 0
+";
     has_margins(&rt, TWO_SENDERS, (0, 0, 0), wanted)
 }
 
 /// It is too close where clocks are off.
 #[test]
 fn the_first_round_may_be_too_close(rt: HostRuntime) -> Result<(), Fail> {
-    let wanted =
-        b"MARGINS periodic none - -\nROOM hearing 1 - 7997\nROOM sync 2 - 345017\nROOM order 1 1 2 44894\nROOM begin 1 2 -23\nBEARS delay - jitter - clocks -\n";
+    let wanted = b"MARGINS periodic none - -
+ROOM hearing 1 - 7997
+ROOM sync 2 - 345017
+ROOM order 1 1 2 44894
+ROOM begin 1 2 -23
+BEARS delay - jitter - clocks -
+";
     has_margins(&rt, TWO_SENDERS, (0, 0, 50), wanted)
 }
 
 /// Messages of one sender vary, and so does a round.
 #[test]
 fn a_round_may_vary(rt: HostRuntime) -> Result<(), Fail> {
-    let wanted =
-        b"MARGINS periodic turns 1000000 1100000\nROOM hearing 1 - 7999\nROOM sync 2 - 245001\nROOM order 1 1 2 44999\nROOM begin 1 2 0\nBEARS delay 0 jitter 0 clocks 0\n";
+    let wanted = b"MARGINS periodic turns 1000000 1100000
+ROOM hearing 1 - 7999
+ROOM sync 2 - 245001
+ROOM order 1 1 2 44999
+ROOM begin 1 2 0
+BEARS delay 0 jitter 0 clocks 0
+";
     has_margins(&rt, VARYING, (0, 0, 0), wanted)
 }
 
 /// Tables that are planned to the least interval leave no room for a synchronization gap of each sender.
 #[test]
 fn a_tight_interval_leaves_no_room_for_sync(rt: HostRuntime) -> Result<(), Fail> {
-    let wanted =
-        b"MARGINS periodic none - -\nROOM hearing 2 - 125499\nROOM sync 1 - -127999\nROOM order 1 1 2 337499\nROOM begin 2 1 500\nBEARS delay - jitter - clocks -\n";
+    let wanted = b"MARGINS periodic none - -
+ROOM hearing 2 - 125499
+ROOM sync 1 - -127999
+ROOM order 1 1 2 337499
+ROOM begin 2 1 500
+BEARS delay - jitter - clocks -
+";
     has_margins(&rt, GREAT_GAPS, (0, 0, 0), wanted)
 }
 
 /// Nor does this one of four senders,
 #[test]
 fn four_senders_leave_no_room_for_sync(rt: HostRuntime) -> Result<(), Fail> {
-    let wanted =
-        b"MARGINS periodic none - -\nROOM hearing 1 - 7999\nROOM sync 4 - -273497\nROOM order 2 4 1 99999\nROOM begin 1 2 2500\nBEARS delay - jitter - clocks -\n";
+    let wanted = b"MARGINS periodic none - -
+ROOM hearing 1 - 7999
+ROOM sync 4 - -273497
+ROOM order 2 4 1 99999
+ROOM begin 1 2 2500
+BEARS delay - jitter - clocks -
+";
     has_margins(&rt, FOUR_SENDERS, (0, 0, 0), wanted)
 }
 
 /// nor with a longer interval.
 #[test]
 fn nor_with_a_longer_interval(rt: HostRuntime) -> Result<(), Fail> {
-    let wanted =
-        b"MARGINS periodic none - -\nROOM hearing 1 - 7999\nROOM sync 4 - -153497\nROOM order 2 4 1 99999\nROOM begin 1 2 5000\nBEARS delay - jitter - clocks -\n";
+    let wanted = b"MARGINS periodic none - -
+ROOM hearing 1 - 7999
+ROOM sync 4 - -153497
+ROOM order 2 4 1 99999
+ROOM begin 1 2 5000
+BEARS delay - jitter - clocks -
+";
     has_margins(&rt, FOUR_SENDERS_APART, (0, 0, 0), wanted)
 }
 
 /// Lengths vary by more than turns bear, but gaps ascend behind the first sender, whose interval is as long as all others.
 #[test]
 fn one_leads_where_clocks_are_exact(rt: HostRuntime) -> Result<(), Fail> {
-    let wanted =
-        b"MARGINS periodic leads 1905000 2095000\nROOM hearing 1 - 2999\nROOM sync 5 - 725004\nROOM order 2 5 1 -45001\nROOM begin 1 2 2500\nBEARS delay 1249 jitter 0 clocks 0\n";
+    let wanted = b"MARGINS periodic leads 1905000 2095000
+ROOM hearing 1 - 2999
+ROOM sync 5 - 725004
+ROOM order 2 5 1 -45001
+ROOM begin 1 2 2500
+BEARS delay 1249 jitter 0 clocks 0
+";
     has_margins(&rt, FIVE, (0, 0, 0), wanted)
 }
 
 /// Where clocks may differ by a millionth no interval is surely as long.
 #[test]
 fn none_leads_where_clocks_differ(rt: HostRuntime) -> Result<(), Fail> {
-    let wanted =
-        b"MARGINS periodic none - -\nROOM hearing 1 - 2997\nROOM sync 5 - 724996\nROOM order 2 5 1 -45021\nROOM begin 1 2 2496\nBEARS delay - jitter - clocks -\n";
+    let wanted = b"MARGINS periodic none - -
+ROOM hearing 1 - 2997
+ROOM sync 5 - 724996
+ROOM order 2 5 1 -45021
+ROOM begin 1 2 2496
+BEARS delay - jitter - clocks -
+";
     has_margins(&rt, FIVE, (0, 0, 1), wanted)
 }
 
 /// A sender that is alone has no rule of order.
 #[test]
 fn one_alone_is_overtaken_by_none(rt: HostRuntime) -> Result<(), Fail> {
-    let wanted =
-        b"MARGINS periodic turns 63996674 64003326\nROOM hearing 1 - 7247\nROOM sync 1 - 63832941\nROOM begin 1 - 63975029\nBEARS delay 7747 jitter 3748 clocks 1000\n";
+    let wanted = b"MARGINS periodic turns 63996674 64003326
+ROOM hearing 1 - 7247
+ROOM sync 1 - 63832941
+ROOM begin 1 - 63975029
+BEARS delay 7747 jitter 3748 clocks 1000
+";
     has_margins(&rt, ALONE, (500, 125, 50), wanted)
 }

@@ -1,5 +1,5 @@
-//! What is said of worked tables on oscillators that are 50 millionths off. What is wanted was reckoned from the definitions apart from this
-//! program.
+//! What is said of worked tables on oscillators that are 50 millionths off. What is wanted was reckoned from the definitions, apart from
+//! this program.
 use bus_margins_periodic::write_drifting;
 use bus_outer::MemorySink;
 use bus_table::{Mode, read_table};
@@ -18,8 +18,21 @@ const APART: &[u8] =
 const SYNC: &[u8] =
     b"TABLE 1\nMODE periodic\nTI 1354\nSG 257\nSENDER 1 TG 256 AT 0\nSEND 001 0 20 20\nSENDER 2 TG 255 AT 677\nSEND 002 0 20 20\n";
 
-const ORDER: &[u8] =
-    b"TABLE 1\nMODE periodic\nTI 4000\nSG 300\nSENDER 1 TG 10 AT 0\nSEND 101 1 8 8\nSENDER 2 TG 15 AT 200\nSEND 102 1 16 16\nSENDER 3 TG 20 AT 570\nSEND 103 1 4 12\nSENDER 4 TG 25 AT 860\nSEND 104 1 6 6\nSENDER 5 TG 30 AT 1040\nSEND 105 1 2 4\n";
+const ORDER: &[u8] = b"TABLE 1
+MODE periodic
+TI 4000
+SG 300
+SENDER 1 TG 10 AT 0
+SEND 101 1 8 8
+SENDER 2 TG 15 AT 200
+SEND 102 1 16 16
+SENDER 3 TG 20 AT 570
+SEND 103 1 4 12
+SENDER 4 TG 25 AT 860
+SEND 104 1 6 6
+SENDER 5 TG 30 AT 1040
+SEND 105 1 2 4
+";
 
 /// Checks that this is said of a periodic table.
 fn is_told(rt: &(impl Abort + AllocGlobal), text: &[u8], wanted: &[u8]) -> Result<(), Fail> {
