@@ -13,6 +13,18 @@
 //!
 //! The definitions are in `specs/`: `Received` (which words are received), `ReceivedTexts` (their text), `Hearing` (a receiver, word by
 //! word), and `FilterLaws`.
+//!
+//! # How received words are found
+//!
+//! `write_received` and `count_received` go over the list once for each terminal that has receive lines, and take no memory. What a walk
+//! has to know of a transmission that the terminal doesn't take is one number, its key: the label of its one wordstring, or that it has
+//! several, or that it is garbled. The keys of up to 262,144 transmissions are gathered in one pass, in half a megabyte on the stack; so
+//! who is garbled is asked once, and not at all by `write_clear_received`, of a list in which nothing overlaps; and what no line takes is
+//! skipped by sixteens (`bus_filter::skipping`). Of a longer list each walk finds the keys anew.
+//!
+//! For each terminal a table by key tells between which of its receive lines those of a label stand, and that there are none; where a text
+//! is written it is the same table for all, in which the lines of one are noted and taken out again. So a step of the walk costs two looks,
+//! and only of what is taken are receive lines compared: those of the label, and what stands between them.
 #![tactic(auto)]
 
 mod counting;

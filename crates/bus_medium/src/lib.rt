@@ -24,6 +24,26 @@
 //! (`specs/CableLawful.antt`), which differs in who is due alone. Here too there is exactly one ([`laws::one_cable_list`]). As long as
 //! no transmission begins before all have heard the one before, four numbers of each sender tell who is due next
 //! ([`laws::clocks_tell`]).
+//!
+//! # One induction for schedules, with delays
+//!
+//! What the senders of a bus do is proved once, on a cable with delays (bus_medium, `proofs/CableClocks`, `CableSteps`), and what holds
+//! without delays is the case 0 of it. Four numbers tell a sender's timers after what it heard: when its last message was heard to end,
+//! when its interval is over, from where it counts its terminal gap, and how many messages it has sent. A step says: who is due next
+//! starts, all others hear it before they are due, and the four numbers move on.
+//!
+//! - The lawful lists with delays and without are both those that a *rule* of who is due makes; that there is exactly one is proved of any
+//!   rule (`proofs/Ruled`, `RuledList`).
+//! - In aperiodic mode rounds of the senders that have a message left go by that step, whatever the hands: even hands give the closed
+//!   schedule, uneven ones the drop-out schedule, where each round behind the first takes at least one transmit interval
+//!   (`bus_schedule/specs/Live`, `laws::live_rounds`). Who is awake joins in the same way (bus_reach, `proofs/Rounding`): a run of a table
+//!   on a cable that it bears is a growing schedule in which all are awake from the first round on.
+//! - In periodic mode each sender is due at its offset. That it is in sync is told by looking ahead: it has heard a synchronization gap, or
+//!   hears the last message no later than a slack with which it stays in sync over the gaps to come (`bus_schedule/proofs/Swaying`).
+//! - The converse looks at the second start alone: what it asks of the gap before it, and of a quiet stretch that is pushed behind one
+//!   heard message after the other (`bus_schedule/proofs/Breaking`, bus_reach for aperiodic mode).
+//! - Order from any start is of another form: one lawful list is fixed, and facts of its moments lead to the first at which all is quiet
+//!   for long enough (bus_reach, `specs/Settling`).
 #![tactic(auto)]
 
 mod bit_times;

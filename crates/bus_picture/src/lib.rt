@@ -7,6 +7,32 @@
 //! (the first breach), `Faults` (the faults that are found), `Paces` (how far starts lie apart), `Loads`, `Kinds` and `Legends` (which
 //! kinds of marks there are, and what they mean), and `TimeLines` (which rows there are, and the whole text). What all pictures share is in
 //! `bus_shapes`. No call takes memory.
+//!
+//! # How a picture is written
+//!
+//! A picture is defined over the list as `Sents` gives it, each transmission with its message number, its end, the greatest end before it,
+//! and whether it is garbled: a row of a time line is the transmissions of a terminal that meet the window and are garbled, or those that
+//! aren't, cut into boxes by a relation to what a box has so far; the rows of cycles are cut by where a transmission begins a new one.
+//!
+//! The moments at which these rows begin are counted from a synchronization gap before the settled start in aperiodic mode, so that the
+//! first cycle, to which that quiet belongs, is as long as the others, and no number is below 0.
+//!
+//! A writer keeps the box or the row that is not yet complete, and takes no memory but the stack; a time line walks over what is told of
+//! each transmission, which is found once, twice for each place, and over the list some four times more for whether it has any, its timers,
+//! its load and how far its starts lie apart, or for counts, overlap bands and what its legend lists; cycles twice for all rows, so that
+//! what is garbled lies over what is plain, once for their loads, and once for the marks of faults. Only when its rows are all told of is
+//! the row of the first breach known, and with it how long the picture has to be.
+//!
+//! Only two kinds of elements are drawn, boxes and words, so that the text of an element is defined once, in bus_shapes.
+//!
+//! A terminal gap is defined by one fold over the transmissions before a moment: from which place on the bus is quiet, and whether the
+//! synchronization gap has elapsed since the terminal's own last start. The writer goes over the list once for each sender. It keeps what
+//! is heard of all so far, and of those before the moment of the last, since what begins at a moment isn't heard before it; and the last
+//! start, whose interval is drawn when the next is known. That this is where the terminal gap of the timers counts from holds of lists in
+//! which transmissions overlap as they like: within a transmission no synchronization gap fits.
+//!
+//! Texts that crates above only pass on are `unfoldable`: with `time_line_text` and `cycles_text` open, a check of bus_view took minutes in
+//! place of seconds.
 #![tactic(auto)]
 
 mod between;
