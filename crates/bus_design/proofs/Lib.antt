@@ -1,0 +1,7 @@
+-- The lemmas of this crate.
+mod Apart
+pub mod Orders
+pub mod Levels
+pub mod Designs
+pub mod Plans
+mod Made

@@ -1,0 +1,15 @@
+//! The design of an aperiodic table: the gaps with which the same senders, in the same order, come into order from any start, and the
+//! longest cycle is the least.
+//!
+//! - [`design`] tells these gaps, and [`design_any`] makes the table.
+//! - [`laws`] has what the gaps of `bus_gaps` are for the level and the longest cycle of a table.
+//!
+//! The definitions are in `specs/`: `Others` (tables of the same senders in the same order) and `Bests` (what a design means for tables).
+#![tactic(auto)]
+
+mod designing;
+pub mod laws;
+mod making;
+
+pub use designing::design;
+pub use making::design_any;

@@ -1,0 +1,5 @@
+//! Tests of bus_design by its public calls: in a crate of their own, so that bus_design is proved once and not a second time with them.
+#![tactic(auto)]
+
+#[cfg(test)]
+mod made;

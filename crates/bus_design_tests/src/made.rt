@@ -1,0 +1,202 @@
+//! Tables that are made of worked ones: the numbers are those of a program of another language that tries every gap.
+use bus_bounds::Bounds;
+use bus_design::design_any;
+use bus_outer::MemorySink;
+use bus_table::{Mode, read_table, write_table};
+use std::alloc::Global;
+use std::process::Abort;
+use std::test::Fail;
+
+/// What is asked, and the made table, or nothing where there is none.
+struct Row {
+    name: &'static str,
+    table: &'static [u8],
+    delay: u64,
+    jitter: u64,
+    clocks: u64,
+    made: &'static [u8],
+}
+
+const ROWS: [Row; 7] = [
+    Row {
+        name: "five senders on exact clocks",
+        table: FIVE,
+        delay: 0,
+        jitter: 0,
+        clocks: 0,
+        made: b"TABLE 1
+MODE aperiodic
+TI 1000
+SG 928
+SENDER 1 TG 8
+SEND 101 1 8 8
+SENDER 2 TG 9
+SEND 102 1 16 16
+SENDER 3 TG 10
+SEND 103 1 4 12
+TAKE 101 * 0 8
+SENDER 4 TG 11
+SEND 104 1 6 6
+SENDER 5 TG 12
+SEND 105 1 2 4
+LISTENER 9
+TAKE 105 1 0 2
+",
+    },
+    Row {
+        name: "five senders on a cable",
+        table: FIVE,
+        delay: 2000,
+        jitter: 125,
+        clocks: 100,
+        made: b"TABLE 1
+MODE aperiodic
+TI 1000
+SG 893
+SENDER 1 TG 8
+SEND 101 1 8 8
+SENDER 2 TG 18
+SEND 102 1 16 16
+SENDER 3 TG 28
+SEND 103 1 4 12
+TAKE 101 * 0 8
+SENDER 4 TG 38
+SEND 104 1 6 6
+SENDER 5 TG 48
+SEND 105 1 2 4
+LISTENER 9
+TAKE 105 1 0 2
+",
+    },
+    Row {
+        name: "five senders with much jitter",
+        table: FIVE,
+        delay: 5000,
+        jitter: 1000,
+        clocks: 1000,
+        made: b"TABLE 1
+MODE aperiodic
+TI 1000
+SG 828
+SENDER 1 TG 18
+SEND 101 1 8 8
+SENDER 2 TG 48
+SEND 102 1 16 16
+SENDER 3 TG 78
+SEND 103 1 4 12
+TAKE 101 * 0 8
+SENDER 4 TG 108
+SEND 104 1 6 6
+SENDER 5 TG 138
+SEND 105 1 2 4
+LISTENER 9
+TAKE 105 1 0 2
+",
+    },
+    Row {
+        name: "two senders out of turn order, with the greater of two synchronization gaps",
+        table: TWO,
+        delay: 2000,
+        jitter: 125,
+        clocks: 100,
+        made: b"TABLE 1
+MODE aperiodic
+TI 1000
+SG 963
+SENDER 1 TG 8
+SEND 001 0 2 2
+SENDER 2 TG 18
+SEND 002 0 0 2
+",
+    },
+    Row {
+        name: "a sender that is alone",
+        table: b"TABLE 1
+MODE aperiodic
+TI 5000
+SG 700
+SENDER 1 TG 100
+SEND 001 0 0 0
+",
+        delay: 2000,
+        jitter: 125,
+        clocks: 100,
+        made: b"TABLE 1
+MODE aperiodic
+TI 1000
+SG 973
+SENDER 1 TG 8
+SEND 001 0 0 0
+",
+    },
+    Row {
+        name: "five senders that are too far apart",
+        table: FIVE,
+        delay: 20000,
+        jitter: 125,
+        clocks: 100,
+        made: b"",
+    },
+    Row {
+        name: "messages that may last no time",
+        table: FIVE,
+        delay: 0,
+        jitter: 100000,
+        clocks: 0,
+        made: b"",
+    },
+];
+
+const FIVE: &[u8] = b"TABLE 1
+MODE aperiodic
+TI 1000
+SG 910
+SENDER 1 TG 10
+SEND 101 1 8 8
+SENDER 2 TG 15
+SEND 102 1 16 16
+SENDER 3 TG 20
+SEND 103 1 4 12
+TAKE 101 * 0 8
+SENDER 4 TG 25
+SEND 104 1 6 6
+SENDER 5 TG 30
+SEND 105 1 2 4
+LISTENER 9
+TAKE 105 1 0 2
+";
+
+const TWO: &[u8] = b"TABLE 1
+MODE aperiodic
+TI 2000
+SG 500
+SENDER 2 TG 40
+SEND 002 0 0 2
+SENDER 1 TG 30
+SEND 001 0 2 2
+";
+
+/// Holds what is made of a row's table to the row.
+fn is_made(rt: &impl Abort, alloc: Global, row: &Row) -> Result<(), Fail> {
+    let Some(bounds) = Bounds::new(row.delay, row.jitter, row.clocks) else {
+        return Err(Fail::new("bounds above their limits"));
+    };
+    let table = read_table(alloc, row.table)?;
+    let Mode::Aperiodic = table.mode() else {
+        return Err(Fail::new("a periodic table"));
+    };
+    let mut sink = MemorySink::new(alloc, 1000, 1000, Vec::new(alloc))?;
+    if let Some(made) = design_any(alloc, &table, bounds)? {
+        assert!(rt; write_table(&made, &mut sink).is_ok());
+    }
+    assert!(rt; sink.bytes() == row.made, "{}", row.name);
+    Ok(())
+}
+
+#[test]
+fn made_tables(rt: HostRuntime) -> Result<(), Fail> {
+    for row in &ROWS {
+        is_made(&rt, rt.alloc(), row)?;
+    }
+    Ok(())
+}
