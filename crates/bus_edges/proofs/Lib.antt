@@ -1,0 +1,3 @@
+-- The lemmas of this crate.
+mod Rounding
+mod Margins
