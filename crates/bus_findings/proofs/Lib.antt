@@ -19,3 +19,5 @@ pub mod FileLemmas
 pub mod EndLemmas
 pub mod FaultLemmas
 pub mod MeaningLemmas
+mod FrontLists
+mod FrontLemmas

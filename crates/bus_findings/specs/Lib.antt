@@ -9,5 +9,6 @@ pub mod Terminals
 pub mod Texts
 pub mod Files
 pub mod Laws
+pub mod Fronts
 pub mod Meanings
 pub mod inside

@@ -6,6 +6,7 @@ ghost use Rattle.bus_findings.specs.Laws.{KeepersAreUnblamed, AmountsAreTold, Ga
 ghost use Rattle.bus_findings.specs.Laws.{CleanIsUnblamed, UnblamedIsClean, FilesAreUnblamed, CourseFilesAreUnblamed};
 ghost use Rattle.bus_findings.specs.Laws.{SilentIsDue, NotSilentIsNotDue};
 ghost use Rattle.bus_findings.specs.Laws.{GoodBusHasNoFault, NoFaultIsGoodBus, GoodFileHasNoFault, CourseFileHasNoFault};
+ghost use Rattle.bus_findings.specs.Fronts.{FrontsTell};
 ghost use Rattle.bus_findings.specs.Meanings.{FileAmountsAreMeant, FileGapIsMeant};
 
 use bus_recording::laws::{
@@ -77,4 +78,10 @@ pub fn good_buses_have_no_fault()
 /// The list of all that is found has as many faults as the text of findings tells of all transmissions.
 pub fn fault_sums_are_told()
     ensures { FaultSumIsTold }
+{}
+
+/// What is found at a transmission depends on nothing behind it: of a front of a list it is what is found in the whole list, so that it can
+/// be told as soon as the transmission has come.
+pub fn fronts_tell()
+    ensures { FrontsTell }
 {}
