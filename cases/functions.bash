@@ -142,7 +142,7 @@ behind_trace() { bus629-view "$3" "$1" "$2" "${@:4}"; }
 ignored() {
   local words same=0
   cat on_cable.trace >followed
-  printf "$1" >>followed
+  printf '%b' "$1" >>followed
   for words in svg 'svg 0 150' cycles 'cycles 0 150'; do
     behind_trace idle_listener.table on_cable.trace $words >.alone || return
     behind_trace idle_listener.table followed $words | cmp -s - .alone && same=$((same + 1))

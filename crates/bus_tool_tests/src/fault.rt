@@ -1,13 +1,10 @@
-//! Each pull and each push that fails in turn, and texts that are cut at each byte, over sources and sinks in memory.
-use crate::cable::FOUR_APART;
-use crate::calls::{
-    Ran, TWO_PERIODIC_SENDERS, TWO_SENDERS, is_refused, run_on, run_over, sink_of, words_of,
+//! Each pull and each push that fails in turn, over sources and sinks in memory.
+use crate::calls::{Ran, is_refused, run_on, run_over, sink_of, words_of};
+use crate::texts::{
+    FOUR_APART, LONG_GAP, ONE_EACH, ONE_EACH_SEEN, ONE_EACH_WAVE, TWO_PERIODIC_SENDERS, TWO_SENDERS,
 };
-use crate::observe::{LONG_GAP, ONE_EACH, ONE_EACH_SEEN};
-use crate::wave::ONE_EACH_WAVE;
 use bus_outer::{MemorySink, MemorySource};
 use bus_tool::{Status, tool};
-use bus_vectors::row;
 use std::test::Fail;
 
 /// A call: its words, and both texts.
@@ -230,130 +227,6 @@ fn each_push_of_the_line_that_fails(rt: HostRuntime) -> Result<(), Fail> {
     for call in CALLS {
         assert_eq!(rt; failing_lines(&rt, &answered(call, false))?, 0);
         assert_eq!(rt; failing_lines(&rt, &answered(call, true))?, 3);
-    }
-    Ok(())
-}
-
-/// What `run` of the messages of one each comes to whose last bytes are missing: from so many bytes left up to so many, this status,
-/// and the line, or the horizon of what is written.
-type Cut = (usize, usize, Status, &'static str);
-
-const CUTS: [Cut; 16] = [
-    (
-        0,
-        0,
-        Status::InputRefused,
-        "ERROR 4 messages line 1 Ended\n",
-    ),
-    (
-        1,
-        7,
-        Status::InputRefused,
-        "ERROR 4 messages line 1 Keyword\n",
-    ),
-    (
-        8,
-        9,
-        Status::InputRefused,
-        "ERROR 4 messages line 1 Fields\n",
-    ),
-    (10, 11, Status::Done, "\nHORIZON 0\n"),
-    (
-        12,
-        13,
-        Status::InputRefused,
-        "ERROR 4 messages line 2 Keyword\n",
-    ),
-    (
-        14,
-        17,
-        Status::InputRefused,
-        "ERROR 4 messages line 2 Fields\n",
-    ),
-    (
-        18,
-        19,
-        Status::InputRefused,
-        "ERROR 4 messages item 1 Shape\n",
-    ),
-    (
-        20,
-        22,
-        Status::InputRefused,
-        "ERROR 4 messages line 2 Spelling\n",
-    ),
-    (
-        23,
-        24,
-        Status::InputRefused,
-        "ERROR 4 messages item 1 Shape\n",
-    ),
-    (
-        25,
-        27,
-        Status::InputRefused,
-        "ERROR 4 messages line 2 Spelling\n",
-    ),
-    (
-        28,
-        29,
-        Status::InputRefused,
-        "ERROR 4 messages uneven 1 1 2 0\n",
-    ),
-    (
-        30,
-        31,
-        Status::InputRefused,
-        "ERROR 4 messages line 3 Keyword\n",
-    ),
-    (
-        32,
-        35,
-        Status::InputRefused,
-        "ERROR 4 messages line 3 Fields\n",
-    ),
-    (36, 37, Status::Done, "\nHORIZON 130\n"),
-    (
-        38,
-        40,
-        Status::InputRefused,
-        "ERROR 4 messages line 3 Spelling\n",
-    ),
-    (41, 42, Status::Done, "\nHORIZON 150\n"),
-];
-
-/// Whether a run writes this horizon and, where the messages are whole or there are none, just what is stored.
-fn answers(ran: &Ran, bytes: usize, horizon: &str) -> Result<bool, Fail> {
-    let stored = match bytes {
-        10 | 11 => row(7),
-        41 | 42 => row(16),
-        _ => None,
-    };
-    if let Some(row) = stored {
-        return Ok(ran.out.bytes() == row.out);
-    }
-    let behind = ran.out.bytes().get(7..).ok_or("a first line")?;
-    Ok(behind.starts_with(horizon.as_bytes()))
-}
-
-/// Whether a run of so many bytes of the messages comes to this.
-fn cut_comes_to(rt: &HostRuntime, bytes: usize, status: Status, text: &str) -> Result<bool, Fail> {
-    let cut = ONE_EACH.as_bytes().get(..bytes).ok_or("so many bytes")?;
-    let second = MemorySource::new(cut.to_vec(rt.alloc())?, 4096, Vec::new(rt.alloc()));
-    let first = failing(rt, LONG_GAP, None)?;
-    let ran = run_over(rt, &["run", "T", "M"], first, second, sink_of(rt, 3000)?)?;
-    if status != Status::Done {
-        return Ok(is_refused(&ran, status, text));
-    }
-    Ok(ran.status == status && answers(&ran, bytes, text)?)
-}
-
-#[test]
-fn messages_cut_at_each_byte(rt: HostRuntime) -> Result<(), Fail> {
-    for (from, to, status, text) in CUTS {
-        for bytes in from..to + 1 {
-            assert!(rt; cut_comes_to(&rt, bytes, status, text)?, "{bytes} bytes");
-        }
     }
     Ok(())
 }

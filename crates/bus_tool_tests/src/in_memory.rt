@@ -1,7 +1,6 @@
 //! `answer`, with ample memory.
-use crate::calls::{TWO_SENDERS, words_of};
-use crate::observe::{LONG_GAP, ONE_EACH};
-use crate::run::{LONGEST_INTERVAL, items};
+use crate::calls::words_of;
+use crate::texts::{LONG_GAP, LONGEST_INTERVAL, ONE_EACH, TWO_SENDERS};
 use bus_tool::{Status, answer};
 use std::test::Fail;
 
@@ -24,6 +23,15 @@ fn statuses_of_texts_in_memory(rt: HostRuntime) -> Result<(), Fail> {
     assert!(rt; ends(&rt, run, LONG_GAP, ONE_EACH)? == Status::Done);
     assert!(rt; ends(&rt, run, LONG_GAP, uneven)? == Status::InputRefused);
     Ok(())
+}
+
+/// So many items of one sender without words.
+fn items(rt: &HostRuntime, number: usize) -> Result<String, Fail> {
+    let mut messages = String::from_str(rt.alloc(), "MESSAGES 1\n")?;
+    for _ in 0..number {
+        messages.push_str("MSG 1 :\n")?;
+    }
+    Ok(messages)
 }
 
 #[test]
