@@ -70,7 +70,7 @@ what is proved; examples/ has tables to try.
 ";
 
 /// The version of the program, and those of the texts that it reads and writes.
-pub const VERSION: &[u8] = b"bus629 1.0.0 (TABLE 1, MESSAGES 1, TRACE 1 and 2, WAVE 1, CABLE 1)\n";
+pub const VERSION: &[u8] = b"bus629 1.1.0 (TABLE 1, MESSAGES 1, TRACE 1 and 2, WAVE 1, CABLE 1)\n";
 
 /// What is asked of the program itself.
 #[tactic(auto, unfolding(crate::specs::Itself::help_text, crate::specs::Itself::version_text))]

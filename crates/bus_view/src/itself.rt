@@ -51,7 +51,7 @@ examples/ has a table and a trace to try.
 ";
 
 /// The version of the program, and those of the texts that it reads and writes.
-pub const VERSION: &[u8] = b"bus629-view 1.0.0 (TABLE 1, TRACE 1 and 2)\n";
+pub const VERSION: &[u8] = b"bus629-view 1.1.0 (TABLE 1, TRACE 1 and 2)\n";
 
 /// The version line.
 #[tactic(auto, unfolding(crate::specs::Itself::version_text))]
