@@ -63,7 +63,8 @@ fn is_read(
     })
 }
 
-/// A name, what is read, and whether it is; else there is a fault. A folder opens, and its first read fails. Without a name there is nothing.
+/// A name, what is read, and whether it is; else there is a fault. A folder opens, and its first read fails. Without a name there is
+/// nothing.
 const FILES: [(Option<&str>, &[u8], bool); 5] = [
     (Some("some_file"), b"some bytes", true),
     (Some(" some_file "), b"with blanks", true),

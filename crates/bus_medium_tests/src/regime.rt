@@ -154,7 +154,8 @@ fn a_verdict_has_its_line(rt: HostRuntime) -> Result<(), Fail> {
     Ok(())
 }
 
-/// A table that is refused, and how many data words the last item of its witness has: the least in aperiodic mode, and the most in periodic mode.
+/// A table that is refused, and how many data words the last item of its witness has: the least in aperiodic mode, and the most in
+/// periodic mode.
 #[derive(Drop)]
 struct Witnessed {
     table: &'static [u8],
