@@ -1,11 +1,8 @@
 //! Messages texts that are read, and that are refused.
-ghost use Rattle.std.specs.Prelude.{◌≤◌};
-
 use bus_outer::MemorySink;
 use bus_strings::{MessagesError, Payload, read_messages, write_messages};
 use bus_text::Reason;
 use std::alloc::{AllocError, Global};
-use std::process::Abort;
 use std::test::Fail;
 
 const TWO_ITEMS: &[u8] = b"MESSAGES 1\nMSG 1 : 0000 0001\nMSG 2 : 00FF\n";
@@ -48,43 +45,37 @@ fn two(items: &[Payload]) -> (Option<(u8, &[u16])>, Option<(u8, &[u16])>) {
     }
 }
 
-/// What a text stands for is written as another one, in pieces of so many bytes, in a sink that has just the room for it.
-fn is_written_as(
-    rt: &impl Abort,
-    alloc: Global,
-    text: &[u8],
-    piece: usize,
-    written: &[u8],
-) -> Result<(), Fail>
-    requires { 1 ≤ piece }
-{
+/// A text, and that which is written of what it stands for; blanks, comments and small letters are read.
+const WRITTEN: [(&[u8], &[u8]); 2] = [
+    (TWO_ITEMS, TWO_ITEMS),
+    (
+        b"# hands\n\n\tMESSAGES 1 \r\n  # MSG\n MSG\t9 : : beef :",
+        b"MESSAGES 1\nMSG 9 : : BEEF :\n",
+    ),
+];
+
+/// Whether what a text stands for is written as another one, in pieces of five bytes, in a sink that has just the room for it.
+fn is_written_as(alloc: Global, text: &[u8], written: &[u8]) -> Result<bool, Fail> {
     let payloads = read_messages(alloc, text)?;
-    let mut sink = MemorySink::new(alloc, written.len(), piece, Vec::new(alloc))?;
-    assert!(rt; write_messages(&payloads, &mut sink).is_ok());
-    assert_eq!(rt; sink.bytes(), written);
-    Ok(())
+    let mut sink = MemorySink::new(alloc, written.len(), 5, Vec::new(alloc))?;
+    let answer = write_messages(&payloads, &mut sink);
+    Ok(answer.is_ok() && sink.bytes() == written)
 }
 
 #[test]
 fn two_items_are_read(rt: HostRuntime) -> Result<(), Fail> {
     let payloads = read_messages(rt.alloc(), TWO_ITEMS)?;
-    assert_eq!(rt;
-        two(&payloads.items),
-        (Some((1, [0, 1].as_slice())), Some((2, [0xFF].as_slice())))
-    );
+    let expected = (Some((1, [0, 1].as_slice())), Some((2, [0xFF].as_slice())));
+    assert!(rt; two(&payloads.items) == expected);
     Ok(())
 }
 
 #[test]
-fn two_items_are_written_back(rt: HostRuntime) -> Result<(), Fail> {
-    is_written_as(&rt, rt.alloc(), TWO_ITEMS, 5, TWO_ITEMS)
-}
-
-#[test]
-fn blanks_comments_and_small_letters_are_read(rt: HostRuntime) -> Result<(), Fail> {
-    let text = b"# hands\n\n\tMESSAGES 1 \r\n  # MSG\n MSG\t9 : : beef :";
-    let written = b"MESSAGES 1\nMSG 9 : : BEEF :\n";
-    is_written_as(&rt, rt.alloc(), text, 99, written)
+fn items_are_written(rt: HostRuntime) -> Result<(), Fail> {
+    for (text, written) in &WRITTEN {
+        assert!(rt; is_written_as(rt.alloc(), text, written)?);
+    }
+    Ok(())
 }
 
 const ENDS: [(&[u8], Result<usize, MessagesError>); 3] = [
@@ -142,11 +133,22 @@ fn count_of(
     Ok(item_count(alloc, &item_text(alloc, strings, words)?))
 }
 
+/// How many wordstrings an item has of how many words, and whether it is read.
+const SIZES: [(u32, u32, Result<usize, MessagesError>); 3] = [
+    (31, 256, Ok(1)),
+    (32, 0, TOO_MANY),
+    (1, 257, TOO_MANY),
+];
+
+const TOO_MANY: Result<usize, MessagesError> = Err(MessagesError::Text {
+    line: 2,
+    reason: Reason::Range,
+});
+
 #[test]
 fn an_item_has_31_wordstrings_of_256_words_at_most(rt: HostRuntime) -> Result<(), Fail> {
-    let too_many = refused(2, Reason::Range);
-    assert!(rt; count_of(rt.alloc(), 31, 256)? == Ok(1));
-    assert!(rt; count_of(rt.alloc(), 32, 0)? == too_many);
-    assert!(rt; count_of(rt.alloc(), 1, 257)? == too_many);
+    for (strings, words, answer) in &SIZES {
+        assert!(rt; count_of(rt.alloc(), *strings, *words)? == *answer);
+    }
     Ok(())
 }

@@ -73,16 +73,6 @@ const ON: &[(u32, bool)] = &[
     (104, false),
 ];
 
-#[test]
-fn a_message_is_quiet_for_four_bit_times_between_two_wordstrings(
-    rt: HostRuntime,
-) -> Result<(), Fail> {
-    let message = message(rt.alloc(), &[1, 2])?;
-    assert_eq!(rt; two_pulses(&message), Some((104, (0, 40), (44, 60))));
-    is_on_at(&rt, &message, ON);
-    Ok(())
-}
-
 /// How many bit times a message with such wordstrings takes, where there is one.
 fn length(alloc: Global, data_words: &[usize]) -> Result<Option<u32>, AllocError> {
     match made(alloc, data_words)? {
@@ -120,11 +110,15 @@ fn are_copies(old: &Message, new: &Message) -> bool {
     }
 }
 
+/// A message has two pulses, is on at its bit times, and is equal to a copy of it.
 #[test]
-fn a_copy_is_equal(rt: HostRuntime) -> Result<(), Fail> {
+fn a_message_is_quiet_for_four_bit_times_between_two_wordstrings(
+    rt: HostRuntime,
+) -> Result<(), Fail> {
     let message = message(rt.alloc(), &[1, 2])?;
-    let copy = copy_message(rt.alloc(), &message)?;
-    assert!(rt; are_copies(&message, &copy));
+    assert!(rt; two_pulses(&message) == Some((104, (0, 40), (44, 60))));
+    is_on_at(&rt, &message, ON);
+    assert!(rt; are_copies(&message, &copy_message(rt.alloc(), &message)?));
     Ok(())
 }
 
@@ -146,36 +140,30 @@ fn nine(alloc: Global) -> Result<Vec<Transmission>, Fail> {
     )
 }
 
-#[test]
-fn a_transmission_is_garbled_where_another_overlaps_it(rt: HostRuntime) -> Result<(), Fail> {
-    let list = nine(rt.alloc())?;
-    assert!(rt; is_by_moment(&list));
-    let expected = [true, true, true, true, false, true, true, true, false];
-    assert!(rt; Marks::new(&list).eq(expected));
-    Ok(())
-}
-
 /// How many of a list overlap an entry, itself among them.
 fn overlapping(list: &[Transmission], entry: &Transmission) -> usize {
     list.iter().filter(|other| overlaps(entry, other)).count()
 }
 
-#[test]
-fn a_garbled_transmission_overlaps_more_than_itself(rt: HostRuntime) -> Result<(), Fail> {
-    let list = nine(rt.alloc())?;
-    assert!(rt; list.len() == 9 && is_by_moment(&list));
+/// In a list by moment those are garbled that another overlaps, which are those that more than themselves overlap.
+fn are_garbled(rt: &impl Abort, list: &[Transmission]) {
+    assert!(rt; is_by_moment(list));
+    let expected = [true, true, true, true, false, true, true, true, false];
+    assert!(rt; Marks::new(list).eq(expected));
     for (k, entry) in list.iter().enumerate() {
         assert!(rt;
-            garbled(&list, k) == (1 < overlapping(&list, entry)),
+            garbled(list, k) == (1 < overlapping(list, entry)),
             "entry {k}"
         );
     }
-    Ok(())
 }
 
+/// From its end a list is not by moment.
 #[test]
-fn a_list_from_its_end_is_not_by_moment(rt: HostRuntime) -> Result<(), Fail> {
+fn a_transmission_is_garbled_where_another_overlaps_it(rt: HostRuntime) -> Result<(), Fail> {
     let mut list = nine(rt.alloc())?;
+    assert!(rt; list.len() == 9);
+    are_garbled(&rt, &list);
     list.reverse();
     assert!(rt; !is_by_moment(&list));
     Ok(())

@@ -13,13 +13,12 @@ fn lines_are_numbered_and_skipped(rt: HostRuntime) {
 
 #[test]
 fn a_text_ends_behind_its_last_line(rt: HostRuntime) {
-    assert_eq!(rt;
+    assert!(rt;
         [
             line_after(b"A\n\nB"),
             line_after(b"A\n\nB\n"),
             line_after(b"")
-        ],
-        [4, 4, 1]
+        ] == [4, 4, 1]
     );
 }
 
@@ -27,7 +26,7 @@ fn a_text_ends_behind_its_last_line(rt: HostRuntime) {
 fn blanks_part_fields(rt: HostRuntime) -> Result<(), Fail> {
     let parts = fields(rt.alloc(), b"\r TI\t\t1000 ")?;
     let expected: [&[u8]; 2] = [b"TI", b"1000"];
-    assert_eq!(rt; parts.as_slice(), expected.as_slice());
+    assert!(rt; parts.as_slice() == expected.as_slice());
     Ok(())
 }
 
@@ -53,25 +52,14 @@ fn numbers_are_plain_decimals(rt: HostRuntime) {
 
 #[test]
 fn hexadecimal_digits_are_counted(rt: HostRuntime) {
-    assert_eq!(rt;
-        [
-            hexadecimal(b"BeeF", 4),
-            hexadecimal(b"0a1", 3),
-            hexadecimal(b"0a1", 4),
-            hexadecimal(b"0x01", 4),
-        ],
-        [Some(0xBEEF), Some(0x0A1), None, None]
-    );
+    assert!(rt; hexadecimal(b"BeeF", 4) == Some(0xBEEF) && hexadecimal(b"0a1", 3) == Some(0x0A1));
+    assert!(rt; hexadecimal(b"0a1", 4).is_none() && hexadecimal(b"0x01", 4).is_none());
 }
 
 #[test]
 fn digits_are_written_in_capitals(rt: HostRuntime) {
-    assert_eq!(rt;
-        (hex_digit(11), three_digits(0x0A1), four_digits(0xBEEF)),
-        (b'B', *b"0A1", *b"BEEF")
+    assert!(rt;
+        hex_digit(11) == b'B' && three_digits(0x0A1) == *b"0A1" && four_digits(0xBEEF) == *b"BEEF"
     );
-    assert_eq!(rt;
-        [capital_digit(b'F'), capital_digit(b'f')],
-        [Some(15), None]
-    );
+    assert!(rt; capital_digit(b'F') == Some(15) && capital_digit(b'f').is_none());
 }

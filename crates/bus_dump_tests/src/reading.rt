@@ -2,6 +2,7 @@
 use crate::calls::{TABLE, Text, written};
 use bus_dump::Dump;
 use bus_text::plain_decimal;
+use std::process::Abort;
 use std::test::Fail;
 
 /// Terminal 2 begins in the inner gap of terminal 1's message. A stranger follows it at its end. The horizon is inside two
@@ -141,16 +142,21 @@ fn value_of(letter: u8) -> &'static [u8] {
     b""
 }
 
+/// A reader has the value of each letter for a signal.
+fn are_read(rt: &impl Abort, lines: &[&[u8]], name: &[u8], letters: &[u8]) {
+    assert!(rt; letters.len() == 100);
+    for (t, letter) in letters.iter().enumerate() {
+        let found = value_at(lines, name, 5 * t as u64);
+        assert!(rt; found == value_of(*letter), "bit time {t}");
+    }
+}
+
 #[test]
 fn each_signal_is_read_at_each_bit_time(rt: HostRuntime) -> Result<(), Fail> {
     let text = written(rt.alloc(), Text::Dump(Dump::Vcd), TABLE, MIXED)?;
     let lines: Vec<&[u8]> = text.split(|byte| *byte == b'\n').collect(rt.alloc())?;
     for (name, letters) in ROWS {
-        assert_eq!(rt; letters.len(), 100);
-        for (t, letter) in letters.iter().enumerate() {
-            let found = value_at(&lines, name, 5 * t as u64);
-            assert!(rt; found == value_of(*letter), "bit time {t}");
-        }
+        are_read(&rt, &lines, name, letters);
     }
     assert!(rt; text.ends_with(b"\n#500\n"));
     Ok(())

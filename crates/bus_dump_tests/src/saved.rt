@@ -1,6 +1,7 @@
 //! A save file to the byte.
 use crate::calls::{TABLE, Text, written};
 use bus_dump::FirstBreach;
+use std::alloc::Global;
 use std::test::Fail;
 
 /// A transmission of a sender, and one of a stranger, which is a breach.
@@ -81,61 +82,95 @@ const BREACH: FirstBreach = FirstBreach {
 #[test]
 fn the_save_file_of_a_sender_and_a_stranger(rt: HostRuntime) -> Result<(), Fail> {
     let text = written(rt.alloc(), Text::SaveFile(Some(BREACH)), TABLE, TRACE)?;
-    assert_eq!(rt; text.as_slice(), SAVED);
+    assert!(rt; text.as_slice() == SAVED);
     Ok(())
 }
 
-/// A window is zoomed to its own bit times below the horizon, and begins where it does; it holds the breach or not.
+/// A save file: what is written, how it begins, a part of it, and its end.
+#[derive(Drop)]
+struct Row {
+    text: Text,
+    trace: &'static [u8],
+    first: &'static str,
+    part: &'static str,
+    last: &'static str,
+}
+
+/// How each save file of `TRACE` ends.
+const LAST: &str = "-group_end\n";
+
+/// A trace without a bit time.
+const EMPTY: &[u8] = b"TRACE 1\nHORIZON 0\nHOLD 1 0\nHOLD 2 0\nEND\n";
+
+/// A window is zoomed to its own bit times below the horizon, and begins where it does; it holds the breach or not. Then an empty trace,
+/// which isn't zoomed: the groups of two lanes are open, and where there is no breach there is no marker.
+const ROWS: [Row; 7] = [
+    Row {
+        text: Text::SavedWindow(0, 150, Some(BREACH)),
+        trace: TRACE,
+        first: "*-15 55000\n@200\n",
+        part: "t7_label[15:0]\n@1401200\n-group_end\n@800200\n-T7\n",
+        last: LAST,
+    },
+    Row {
+        text: Text::SavedWindow(0, 110, Some(BREACH)),
+        trace: TRACE,
+        first: "*-15 -1\n@200\n",
+        part: "t7_label[15:0]\n@1000200\n-group_end\n@800200\n-T1 TG 20\n",
+        last: LAST,
+    },
+    Row {
+        text: Text::SavedWindow(110, 111, Some(BREACH)),
+        trace: TRACE,
+        first: "*-8 55000\n[timestart] 55000\n@200\n",
+        part: "@c00200\n-T1 TG 20\n",
+        last: LAST,
+    },
+    Row {
+        text: Text::SavedWindow(100, 1000, Some(BREACH)),
+        trace: TRACE,
+        first: "*-14 55000\n[timestart] 50000\n@200\n",
+        part: "@c00200\n-T2 TG 30\n",
+        last: LAST,
+    },
+    Row {
+        text: Text::SavedWindow(111, 1000, Some(BREACH)),
+        trace: TRACE,
+        first: "*-13 -1\n[timestart] 55500\n@200\n",
+        part: "@800200\n-T2 TG 30\n",
+        last: LAST,
+    },
+    Row {
+        text: Text::SavedWindow(200, 201, Some(BREACH)),
+        trace: TRACE,
+        first: "*-0 -1\n[timestart] 100000\n@200\n",
+        part: "@800200\n-T7\n",
+        last: LAST,
+    },
+    Row {
+        text: Text::SaveFile(None),
+        trace: EMPTY,
+        first: "*-0 -1\n@200\n-bus\n",
+        part: "@800200\n-labels\n@22\nbus.t1_label[15:0]\nbus.t2_label[15:0]\n@1000200\n-group_end\n@800200\n-T1 TG 20\n",
+        last: "bus.t2_may\n@1000200\n-group_end\n",
+    },
+];
+
+/// Whether a save file begins, goes on and ends as its row says.
+fn is_saved(alloc: Global, row: &Row) -> Result<bool, Fail> {
+    let text = written(alloc, row.text, TABLE, row.trace)?;
+    Ok(match str::from_utf8(&text) {
+        Ok(text) => {
+            text.starts_with(row.first) && text.contains(row.part) && text.ends_with(row.last)
+        }
+        Err(_) => false,
+    })
+}
+
 #[test]
-fn the_save_file_of_a_window(rt: HostRuntime) -> Result<(), Fail> {
-    let cases = [
-        (
-            0,
-            150,
-            "*-15 55000\n@200\n",
-            "t7_label[15:0]\n@1401200\n-group_end\n@800200\n-T7\n",
-        ),
-        (
-            0,
-            110,
-            "*-15 -1\n@200\n",
-            "t7_label[15:0]\n@1000200\n-group_end\n@800200\n-T1 TG 20\n",
-        ),
-        (
-            110,
-            111,
-            "*-8 55000\n[timestart] 55000\n@200\n",
-            "@c00200\n-T1 TG 20\n",
-        ),
-        (
-            100,
-            1000,
-            "*-14 55000\n[timestart] 50000\n@200\n",
-            "@c00200\n-T2 TG 30\n",
-        ),
-        (
-            111,
-            1000,
-            "*-13 -1\n[timestart] 55500\n@200\n",
-            "@800200\n-T2 TG 30\n",
-        ),
-        (
-            200,
-            201,
-            "*-0 -1\n[timestart] 100000\n@200\n",
-            "@800200\n-T7\n",
-        ),
-    ];
-    for (from, to, first, part) in cases {
-        let text = written(
-            rt.alloc(),
-            Text::SavedWindow(from, to, Some(BREACH)),
-            TABLE,
-            TRACE,
-        )?;
-        let text = str::from_utf8(&text).map_err(|_| Fail::new("no text"))?;
-        assert!(rt; text.starts_with(first), "{from} {to}");
-        assert!(rt; text.contains(part), "{from} {to}");
+fn the_save_file_of_a_window_or_of_an_empty_trace(rt: HostRuntime) -> Result<(), Fail> {
+    for (k, row) in ROWS.iter().enumerate() {
+        assert!(rt; is_saved(rt.alloc(), row)?, "row {k}");
     }
     Ok(())
 }
@@ -170,11 +205,13 @@ SEND 001 1 0 0
 /// A trace of nothing.
 const SILENT: &[u8] = b"TRACE 1\nHORIZON 20\nEND\n";
 
-/// The names of the groups that are open, in their order, with a semicolon behind each.
-fn open_groups(rt: &HostRuntime, breach: Option<FirstBreach>) -> Result<String, Fail> {
-    let text = written(rt.alloc(), Text::SaveFile(breach), TEN, SILENT)?;
-    let text = str::from_utf8(&text).map_err(|_| Fail::new("no text"))?;
-    let mut names = String::new(rt.alloc());
+/// Whether the groups that are open have these names, in their order, with a semicolon behind each.
+fn are_open(alloc: Global, breach: Option<FirstBreach>, wanted: &str) -> Result<bool, Fail> {
+    let text = written(alloc, Text::SaveFile(breach), TEN, SILENT)?;
+    let Ok(text) = str::from_utf8(&text) else {
+        return Ok(false);
+    };
+    let mut names = String::new(alloc);
     let mut begins = false;
     for line in text.lines() {
         if begins {
@@ -183,36 +220,42 @@ fn open_groups(rt: &HostRuntime, breach: Option<FirstBreach>) -> Result<String, 
         }
         begins = line == "@800200";
     }
-    Ok(names)
+    Ok(names.as_str() == wanted)
 }
 
 /// Of ten lanes the first eight are open, or that of a breach, which then is the first of all.
+const OPEN: [(Option<FirstBreach>, &str); 4] = [
+    (
+        None,
+        "-T10 TG 20;-T9 TG 30;-T8 TG 40;-T7 TG 50;-T6 TG 60;-T5 TG 70;-T4 TG 80;-T3 TG 90;",
+    ),
+    (
+        Some(FirstBreach {
+            moment: 5,
+            terminal: 1,
+        }),
+        "-T1 TG 110;",
+    ),
+    (
+        Some(FirstBreach {
+            moment: 5,
+            terminal: 10,
+        }),
+        "-T10 TG 20;",
+    ),
+    (
+        Some(FirstBreach {
+            moment: 5,
+            terminal: 4,
+        }),
+        "-T4 TG 80;",
+    ),
+];
+
 #[test]
 fn the_open_groups_of_many_lanes(rt: HostRuntime) -> Result<(), Fail> {
-    let first = "-T10 TG 20;-T9 TG 30;-T8 TG 40;-T7 TG 50;-T6 TG 60;-T5 TG 70;-T4 TG 80;-T3 TG 90;";
-    assert!(rt; open_groups(&rt, None)?.as_str() == first);
-    for (terminal, name) in [(1, "-T1 TG 110;"), (10, "-T10 TG 20;"), (4, "-T4 TG 80;")] {
-        let breach = FirstBreach {
-            moment: 5,
-            terminal,
-        };
-        assert!(rt; open_groups(&rt, Some(breach))?.as_str() == name);
+    for (k, (breach, names)) in OPEN.iter().enumerate() {
+        assert!(rt; are_open(rt.alloc(), *breach, names)?, "row {k}");
     }
-    Ok(())
-}
-
-/// The groups of two lanes are open, and where there is no breach there is no marker. An empty trace isn't zoomed.
-#[test]
-fn the_save_file_of_an_empty_trace(rt: HostRuntime) -> Result<(), Fail> {
-    let empty = b"TRACE 1\nHORIZON 0\nHOLD 1 0\nHOLD 2 0\nEND\n";
-    let text = written(rt.alloc(), Text::SaveFile(None), TABLE, empty)?;
-    let text = str::from_utf8(&text).map_err(|_| Fail::new("no text"))?;
-    assert!(rt; text.starts_with("*-0 -1\n@200\n-bus\n"));
-    assert!(rt;
-        text.contains(
-            "@800200\n-labels\n@22\nbus.t1_label[15:0]\nbus.t2_label[15:0]\n@1000200\n-group_end\n@800200\n-T1 TG 20\n"
-        )
-    );
-    assert!(rt; text.ends_with("bus.t2_may\n@1000200\n-group_end\n"));
     Ok(())
 }

@@ -189,16 +189,17 @@ b10 m1
 #5050
 ";
 
-#[test]
-fn a_horizon_of_one_bit_time(rt: HostRuntime) -> Result<(), Fail> {
-    let text = written(rt.alloc(), Text::Dump(Dump::Timers), TABLE, ONE_BIT_TIME)?;
-    assert_eq!(rt; text.as_slice(), ONE_BIT_TIME_TIMERS);
-    Ok(())
-}
+/// Tables, traces, and what their timers tell: a horizon of one bit time, and timers that turn.
+const ROWS: [[&[u8]; 3]; 2] = [
+    [TABLE, ONE_BIT_TIME, ONE_BIT_TIME_TIMERS],
+    [SHORT_GAPS, TURNING, TURNING_TIMERS],
+];
 
 #[test]
-fn timers_that_turn(rt: HostRuntime) -> Result<(), Fail> {
-    let text = written(rt.alloc(), Text::Dump(Dump::Timers), SHORT_GAPS, TURNING)?;
-    assert_eq!(rt; text.as_slice(), TURNING_TIMERS);
+fn timers_are_dumped_to_the_byte(rt: HostRuntime) -> Result<(), Fail> {
+    for [table, trace, timers] in ROWS {
+        let text = written(rt.alloc(), Text::Dump(Dump::Timers), table, trace)?;
+        assert!(rt; text.as_slice() == timers);
+    }
     Ok(())
 }

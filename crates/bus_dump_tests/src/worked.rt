@@ -1,6 +1,7 @@
 //! Dumps to the byte.
 use crate::calls::{TABLE, Text, written};
 use bus_dump::Dump;
+use std::alloc::Global;
 use std::test::Fail;
 
 const SENT: &[u8] = b"TRACE 1
@@ -209,27 +210,6 @@ $dumpvars
 $end
 ";
 
-#[test]
-fn the_wires_of_two_senders(rt: HostRuntime) -> Result<(), Fail> {
-    let text = written(rt.alloc(), Text::Dump(Dump::Wires), TABLE, SENT)?;
-    assert_eq!(rt; text.as_slice(), WIRES);
-    Ok(())
-}
-
-#[test]
-fn overlaps_a_stranger_and_a_horizon_in_a_message(rt: HostRuntime) -> Result<(), Fail> {
-    let text = written(rt.alloc(), Text::Dump(Dump::Vcd), TABLE, MET)?;
-    assert_eq!(rt; text.as_slice(), MET_VCD);
-    Ok(())
-}
-
-#[test]
-fn a_horizon_of_no_bit_time(rt: HostRuntime) -> Result<(), Fail> {
-    let text = written(rt.alloc(), Text::Dump(Dump::Wires), TABLE, NOTHING)?;
-    assert_eq!(rt; text.as_slice(), NOTHING_WIRES);
-    Ok(())
-}
-
 /// The bit times from 45 to below 70, where the first breach is at 60: in a word of terminal 1, and in the next one.
 const CUT: &[u8] = b"$version bus629-view 1 $end
 $comment ACCEPT aperiodic 1130 1170 $end
@@ -266,36 +246,69 @@ $end
 #350
 ";
 
-#[test]
-fn the_wires_of_a_window_with_a_breach(rt: HostRuntime) -> Result<(), Fail> {
-    let text = written(
-        rt.alloc(),
-        Text::Window(Dump::Wires, 45, 70, 60),
-        TABLE,
-        SENT,
-    )?;
-    assert_eq!(rt; text.as_slice(), CUT);
-    Ok(())
+/// What is written of a trace, and how it ends, or the whole of it.
+#[derive(Drop)]
+struct Row {
+    text: Text,
+    trace: &'static [u8],
+    whole: bool,
+    written: &'static [u8],
 }
 
-/// A window goes no further than the trace: of one that begins behind its horizon there is one bit time.
+const ROWS: [Row; 6] = [
+    // The wires of two senders.
+    Row {
+        text: Text::Dump(Dump::Wires),
+        trace: SENT,
+        whole: true,
+        written: WIRES,
+    },
+    // Overlaps, a stranger and a horizon in a message.
+    Row {
+        text: Text::Dump(Dump::Vcd),
+        trace: MET,
+        whole: true,
+        written: MET_VCD,
+    },
+    // A horizon of no bit time.
+    Row {
+        text: Text::Dump(Dump::Wires),
+        trace: NOTHING,
+        whole: true,
+        written: NOTHING_WIRES,
+    },
+    // A window with a breach.
+    Row {
+        text: Text::Window(Dump::Wires, 45, 70, 60),
+        trace: SENT,
+        whole: true,
+        written: CUT,
+    },
+    // A window goes no further than the trace: of one that begins behind its horizon there is one bit time.
+    Row {
+        text: Text::Window(Dump::Wires, 140, 9000, 9000),
+        trace: SENT,
+        whole: false,
+        written: b"#700\n$dumpvars\n1c\n0o\n0s\n0b\n0p1\n0g1\n1p2\n0g2\n$end\n#750\n",
+    },
+    Row {
+        text: Text::Window(Dump::Wires, 150, 9000, 9000),
+        trace: SENT,
+        whole: false,
+        written: b"#750\n$dumpvars\n0c\n0o\n0s\n0b\n0p1\n0g1\n0p2\n0g2\n$end\n",
+    },
+];
+
+/// Whether a row is written of the table.
+fn is_written(alloc: Global, row: &Row) -> Result<bool, Fail> {
+    let text = written(alloc, row.text, TABLE, row.trace)?;
+    Ok(text.ends_with(row.written) && (!row.whole || text.len() == row.written.len()))
+}
+
 #[test]
-fn a_window_behind_the_horizon(rt: HostRuntime) -> Result<(), Fail> {
-    let text = written(
-        rt.alloc(),
-        Text::Window(Dump::Wires, 140, 9000, 9000),
-        TABLE,
-        SENT,
-    )?;
-    assert!(rt;
-        text.ends_with(b"#700\n$dumpvars\n1c\n0o\n0s\n0b\n0p1\n0g1\n1p2\n0g2\n$end\n#750\n")
-    );
-    let text = written(
-        rt.alloc(),
-        Text::Window(Dump::Wires, 150, 9000, 9000),
-        TABLE,
-        SENT,
-    )?;
-    assert!(rt; text.ends_with(b"#750\n$dumpvars\n0c\n0o\n0s\n0b\n0p1\n0g1\n0p2\n0g2\n$end\n"));
+fn a_trace_is_dumped_to_the_byte(rt: HostRuntime) -> Result<(), Fail> {
+    for (k, row) in ROWS.iter().enumerate() {
+        assert!(rt; is_written(rt.alloc(), row)?, "row {k}");
+    }
     Ok(())
 }

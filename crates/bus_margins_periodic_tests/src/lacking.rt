@@ -1,5 +1,5 @@
 //! Rules that hold by nothing, and that lack a nanosecond. What is wanted was reckoned from the definitions apart from this program.
-use crate::margins::has_margins;
+use crate::margins::{Row, has_margins};
 use std::test::Fail;
 
 const HEARING: &[u8] =
@@ -14,106 +14,109 @@ const ORDER: &[u8] =
 const BEGIN: &[u8] =
     b"TABLE 1\nMODE periodic\nTI 4000\nSG 300\nSENDER 1 TG 20 AT 0\nSEND 001 0 1 1\nSENDER 2 TG 30 AT 90\nSEND 002 0 1 1\n";
 
-/// The least terminal gap is as long as the quiet within a message that a terminal may hear.
-#[test]
-fn hearing_holds_by_nothing(rt: HostRuntime) -> Result<(), Fail> {
-    let wanted = b"MARGINS periodic turns 2000000 2001999
+const ROWS: [Row; 8] = [
+    // The least terminal gap is as long as the quiet within a message that a terminal may hear.
+    Row {
+        table: HEARING,
+        bounds: (1999, 0, 0),
+        lines: b"MARGINS periodic turns 2000000 2001999
 ROOM hearing 1 - 0
 ROOM sync 2 - 1648002
 ROOM order 2 2 1 22000
 ROOM begin 2 1 8001
 BEARS delay 1999 jitter 0 clocks 0
-";
-    has_margins(&rt, HEARING, (1999, 0, 0), wanted)
-}
-
-/// It is shorter by a nanosecond.
-#[test]
-fn hearing_lacks_a_nanosecond(rt: HostRuntime) -> Result<(), Fail> {
-    let wanted = b"MARGINS periodic none - -
+",
+    },
+    // It is shorter by a nanosecond.
+    Row {
+        table: HEARING,
+        bounds: (2000, 0, 0),
+        lines: b"MARGINS periodic none - -
 ROOM hearing 1 - -1
 ROOM sync 2 - 1648001
 ROOM order 2 2 1 21999
 ROOM begin 2 1 8000
 BEARS delay - jitter - clocks -
-";
-    has_margins(&rt, HEARING, (2000, 0, 0), wanted)
-}
-
-/// In an interval all send, and there is just the quiet that synchronizes one that waits for it.
-#[test]
-fn sync_holds_by_nothing(rt: HostRuntime) -> Result<(), Fail> {
-    let wanted = b"MARGINS periodic turns 500000 500001
+",
+    },
+    // In an interval all send, and there is just the quiet that synchronizes one that waits for it.
+    Row {
+        table: SYNC,
+        bounds: (1, 0, 0),
+        lines: b"MARGINS periodic turns 500000 500001
 ROOM hearing 1 - 7998
 ROOM sync 2 - 0
 ROOM order 2 2 1 29998
 ROOM begin 2 1 14999
 BEARS delay 1 jitter 0 clocks 996
-";
-    has_margins(&rt, SYNC, (1, 0, 0), wanted)
-}
-
-/// It is shorter by a nanosecond.
-#[test]
-fn sync_lacks_a_nanosecond(rt: HostRuntime) -> Result<(), Fail> {
-    let wanted = b"MARGINS periodic leads 459998 540002
+",
+    },
+    // It is shorter by a nanosecond.
+    Row {
+        table: SYNC,
+        bounds: (2, 0, 0),
+        lines: b"MARGINS periodic leads 459998 540002
 ROOM hearing 1 - 7997
 ROOM sync 2 - -1
 ROOM order 2 2 1 29997
 ROOM begin 2 1 14998
 BEARS delay 7999 jitter 0 clocks 0
-";
-    has_margins(&rt, SYNC, (2, 0, 0), wanted)
-}
-
-/// Clocks drift over an interval by as much as a message and a gap bear.
-#[test]
-fn order_holds_by_nothing(rt: HostRuntime) -> Result<(), Fail> {
-    let wanted = b"MARGINS periodic turns 63987197 64017206
+",
+    },
+    // Clocks drift over an interval by as much as a message and a gap bear.
+    Row {
+        table: ORDER,
+        bounds: (4385, 0, 200),
+        lines: b"MARGINS periodic turns 63987197 64017206
 ROOM hearing 1 - 3610
 ROOM sync 2 - 63653343
 ROOM order 2 2 1 0
 ROOM begin 2 1 10550
 BEARS delay 4385 jitter 0 clocks 200
-";
-    has_margins(&rt, ORDER, (4385, 0, 200), wanted)
-}
-
-/// They drift by a nanosecond more.
-#[test]
-fn order_lacks_a_nanosecond(rt: HostRuntime) -> Result<(), Fail> {
-    let wanted = b"MARGINS periodic none - -
+",
+    },
+    // They drift by a nanosecond more.
+    Row {
+        table: ORDER,
+        bounds: (4386, 0, 200),
+        lines: b"MARGINS periodic none - -
 ROOM hearing 1 - 3609
 ROOM sync 2 - 63653342
 ROOM order 2 2 1 -1
 ROOM begin 2 1 10549
 BEARS delay - jitter - clocks -
-";
-    has_margins(&rt, ORDER, (4386, 0, 200), wanted)
-}
-
-/// The second sender is due just when the first has been heard and its gap has elapsed.
-#[test]
-fn begin_holds_by_nothing(rt: HostRuntime) -> Result<(), Fail> {
-    let wanted = b"MARGINS periodic turns 2000000 2005000
+",
+    },
+    // The second sender is due just when the first has been heard and its gap has elapsed.
+    Row {
+        table: BEGIN,
+        bounds: (5000, 0, 0),
+        lines: b"MARGINS periodic turns 2000000 2005000
 ROOM hearing 1 - 2999
 ROOM sync 2 - 1640001
 ROOM order 2 2 1 24999
 ROOM begin 1 2 0
 BEARS delay 5000 jitter 0 clocks 0
-";
-    has_margins(&rt, BEGIN, (5000, 0, 0), wanted)
-}
-
-/// It is due a nanosecond too early.
-#[test]
-fn begin_lacks_a_nanosecond(rt: HostRuntime) -> Result<(), Fail> {
-    let wanted = b"MARGINS periodic none - -
+",
+    },
+    // It is due a nanosecond too early.
+    Row {
+        table: BEGIN,
+        bounds: (4998, 0, 5),
+        lines: b"MARGINS periodic none - -
 ROOM hearing 1 - 2999
 ROOM sync 2 - 1640009
 ROOM order 2 2 1 24977
 ROOM begin 1 2 -1
 BEARS delay - jitter - clocks -
-";
-    has_margins(&rt, BEGIN, (4998, 0, 5), wanted)
+",
+    },
+];
+
+#[test]
+fn a_rule_holds_by_nothing_and_lacks_a_nanosecond(rt: HostRuntime) -> Result<(), Fail> {
+    for (k, row) in ROWS.iter().enumerate() {
+        assert!(rt; has_margins(rt.alloc(), row)?, "row {k}");
+    }
+    Ok(())
 }

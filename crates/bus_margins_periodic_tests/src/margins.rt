@@ -3,7 +3,7 @@ use bus_bounds::Bounds;
 use bus_margins_periodic::write_periodic;
 use bus_outer::MemorySink;
 use bus_table::{Mode, read_table};
-use std::process::Abort;
+use std::alloc::Global;
 use std::test::Fail;
 
 const DRIFT: &[u8] = b"TABLE 1
@@ -98,191 +98,190 @@ SEND 105 1 2 4
 const ALONE: &[u8] =
     b"TABLE 1\nMODE periodic\nTI 128000\nSG 300\nSENDER 1 TG 20 AT 0\nSEND 001 0 0 0\n";
 
-/// Checks that these are the lines of a periodic table within a delay, a jitter and clocks.
-pub(crate) fn has_margins(
-    rt: &(impl Abort + AllocGlobal),
-    text: &[u8],
-    parts: (u64, u64, u64),
-    wanted: &[u8],
-) -> Result<(), Fail> {
-    let alloc = rt.alloc();
-    let table = read_table(alloc, text)?;
-    let (delay, jitter, clocks) = parts;
+/// A table, a delay, a jitter and clocks, and the lines of its margins.
+#[derive(Drop)]
+pub(crate) struct Row {
+    pub(crate) table: &'static [u8],
+    pub(crate) bounds: (u64, u64, u64),
+    pub(crate) lines: &'static [u8],
+}
+
+/// Whether a row has the lines of its periodic table within its bounds.
+pub(crate) fn has_margins(alloc: Global, row: &Row) -> Result<bool, Fail> {
+    let table = read_table(alloc, row.table)?;
+    let (delay, jitter, clocks) = row.bounds;
     match (table.mode(), Bounds::new(delay, jitter, clocks)) {
         (Mode::Periodic, Some(bounds)) => {
             let mut sink = MemorySink::new(alloc, 400, 400, Vec::new(alloc))?;
-            assert!(rt; write_periodic(&table, bounds, &mut sink).is_ok());
-            assert_eq!(rt; sink.bytes(), wanted);
+            let answer = write_periodic(&table, bounds, &mut sink);
+            Ok(answer.is_ok() && sink.bytes() == row.lines)
         }
-        _ => assert!(rt; false),
+        _ => Ok(false),
     }
-    Ok(())
 }
 
-/// A long message of the first holds the second back until the third is due, where clocks are 50 millionths apart.
-#[test]
-fn a_table_that_is_accepted_may_be_overtaken(rt: HostRuntime) -> Result<(), Fail> {
-    let wanted = b"MARGINS periodic none - -
+const ROWS: [Row; 13] = [
+    // A long message of the first holds the second back until the third is due, where clocks are 50 millionths apart.
+    Row {
+        table: DRIFT,
+        bounds: (0, 0, 50),
+        lines: b"MARGINS periodic none - -
 ROOM hearing 3 - 7997
 ROOM sync 2 - 470023
 ROOM order 1 2 3 -112
 ROOM begin 2 3 -29
 BEARS delay - jitter - clocks -
-";
-    has_margins(&rt, DRIFT, (0, 0, 50), wanted)
-}
-
-/// So it does where clocks are exact and power-ups differ: by one nanosecond.
-#[test]
-fn with_exact_clocks_it_lacks_one_nanosecond(rt: HostRuntime) -> Result<(), Fail> {
-    let wanted = b"MARGINS periodic none - -
+",
+    },
+    // So it does where clocks are exact and power-ups differ: by one nanosecond.
+    Row {
+        table: DRIFT,
+        bounds: (0, 0, 0),
+        lines: b"MARGINS periodic none - -
 ROOM hearing 3 - 7999
 ROOM sync 2 - 470002
 ROOM order 1 2 3 -1
 ROOM begin 1 2 0
 BEARS delay - jitter - clocks -
-";
-    has_margins(&rt, DRIFT, (0, 0, 0), wanted)
-}
-
-/// With messages of fixed length nobody is overtaken.
-#[test]
-fn fixed_lengths_keep_turns(rt: HostRuntime) -> Result<(), Fail> {
-    let wanted = b"MARGINS periodic turns 1000000 1000000
+",
+    },
+    // With messages of fixed length nobody is overtaken.
+    Row {
+        table: FIXED_LENGTHS,
+        bounds: (0, 0, 0),
+        lines: b"MARGINS periodic turns 1000000 1000000
 ROOM hearing 3 - 7999
 ROOM sync 2 - 470002
 ROOM order 1 2 3 19999
 ROOM begin 1 2 0
 BEARS delay 0 jitter 0 clocks 0
-";
-    has_margins(&rt, FIXED_LENGTHS, (0, 0, 0), wanted)
-}
-
-/// Nor where terminal gaps ascend in turn order.
-#[test]
-fn ascending_gaps_keep_turns(rt: HostRuntime) -> Result<(), Fail> {
-    let wanted = b"MARGINS periodic turns 1000000 1020000
+",
+    },
+    // Nor where terminal gaps ascend in turn order.
+    Row {
+        table: ASCENDING_GAPS,
+        bounds: (0, 0, 0),
+        lines: b"MARGINS periodic turns 1000000 1020000
 ROOM hearing 2 - 7999
 ROOM sync 3 - 470002
 ROOM order 1 1 2 19999
 ROOM begin 2 3 0
 BEARS delay 0 jitter 0 clocks 0
-";
-    has_margins(&rt, ASCENDING_GAPS, (0, 0, 0), wanted)
-}
-
-/// Two senders whose first round is as close as may be.
-#[test]
-fn two_senders_keep_turns(rt: HostRuntime) -> Result<(), Fail> {
-    let wanted = b"MARGINS periodic turns 1000000 1000000
+",
+    },
+    // Two senders whose first round is as close as may be.
+    Row {
+        table: TWO_SENDERS,
+        bounds: (0, 0, 0),
+        lines: b"MARGINS periodic turns 1000000 1000000
 ROOM hearing 1 - 7999
 ROOM sync 2 - 345001
 ROOM order 1 1 2 44999
 ROOM begin 1 2 0
 BEARS delay 0 jitter 0 clocks 0
-";
-    has_margins(&rt, TWO_SENDERS, (0, 0, 0), wanted)
-}
-
-/// It is too close where clocks are off.
-#[test]
-fn the_first_round_may_be_too_close(rt: HostRuntime) -> Result<(), Fail> {
-    let wanted = b"MARGINS periodic none - -
+",
+    },
+    // It is too close where clocks are off.
+    Row {
+        table: TWO_SENDERS,
+        bounds: (0, 0, 50),
+        lines: b"MARGINS periodic none - -
 ROOM hearing 1 - 7997
 ROOM sync 2 - 345017
 ROOM order 1 1 2 44894
 ROOM begin 1 2 -23
 BEARS delay - jitter - clocks -
-";
-    has_margins(&rt, TWO_SENDERS, (0, 0, 50), wanted)
-}
-
-/// Messages of one sender vary, and so does a round.
-#[test]
-fn a_round_may_vary(rt: HostRuntime) -> Result<(), Fail> {
-    let wanted = b"MARGINS periodic turns 1000000 1100000
+",
+    },
+    // Messages of one sender vary, and so does a round.
+    Row {
+        table: VARYING,
+        bounds: (0, 0, 0),
+        lines: b"MARGINS periodic turns 1000000 1100000
 ROOM hearing 1 - 7999
 ROOM sync 2 - 245001
 ROOM order 1 1 2 44999
 ROOM begin 1 2 0
 BEARS delay 0 jitter 0 clocks 0
-";
-    has_margins(&rt, VARYING, (0, 0, 0), wanted)
-}
-
-/// Tables that are planned to the least interval leave no room for a synchronization gap of each sender.
-#[test]
-fn a_tight_interval_leaves_no_room_for_sync(rt: HostRuntime) -> Result<(), Fail> {
-    let wanted = b"MARGINS periodic none - -
+",
+    },
+    // Tables that are planned to the least interval leave no room for a synchronization gap of each sender.
+    Row {
+        table: GREAT_GAPS,
+        bounds: (0, 0, 0),
+        lines: b"MARGINS periodic none - -
 ROOM hearing 2 - 125499
 ROOM sync 1 - -127999
 ROOM order 1 1 2 337499
 ROOM begin 2 1 500
 BEARS delay - jitter - clocks -
-";
-    has_margins(&rt, GREAT_GAPS, (0, 0, 0), wanted)
-}
-
-/// Nor does this one of four senders,
-#[test]
-fn four_senders_leave_no_room_for_sync(rt: HostRuntime) -> Result<(), Fail> {
-    let wanted = b"MARGINS periodic none - -
+",
+    },
+    // Nor does this one of four senders,
+    Row {
+        table: FOUR_SENDERS,
+        bounds: (0, 0, 0),
+        lines: b"MARGINS periodic none - -
 ROOM hearing 1 - 7999
 ROOM sync 4 - -273497
 ROOM order 2 4 1 99999
 ROOM begin 1 2 2500
 BEARS delay - jitter - clocks -
-";
-    has_margins(&rt, FOUR_SENDERS, (0, 0, 0), wanted)
-}
-
-/// nor with a longer interval.
-#[test]
-fn nor_with_a_longer_interval(rt: HostRuntime) -> Result<(), Fail> {
-    let wanted = b"MARGINS periodic none - -
+",
+    },
+    // nor with a longer interval.
+    Row {
+        table: FOUR_SENDERS_APART,
+        bounds: (0, 0, 0),
+        lines: b"MARGINS periodic none - -
 ROOM hearing 1 - 7999
 ROOM sync 4 - -153497
 ROOM order 2 4 1 99999
 ROOM begin 1 2 5000
 BEARS delay - jitter - clocks -
-";
-    has_margins(&rt, FOUR_SENDERS_APART, (0, 0, 0), wanted)
-}
-
-/// Lengths vary by more than turns bear, but gaps ascend behind the first sender, whose interval is as long as all others.
-#[test]
-fn one_leads_where_clocks_are_exact(rt: HostRuntime) -> Result<(), Fail> {
-    let wanted = b"MARGINS periodic leads 1905000 2095000
+",
+    },
+    // Lengths vary by more than turns bear, but gaps ascend behind the first sender, whose interval is as long as all others.
+    Row {
+        table: FIVE,
+        bounds: (0, 0, 0),
+        lines: b"MARGINS periodic leads 1905000 2095000
 ROOM hearing 1 - 2999
 ROOM sync 5 - 725004
 ROOM order 2 5 1 -45001
 ROOM begin 1 2 2500
 BEARS delay 1249 jitter 0 clocks 0
-";
-    has_margins(&rt, FIVE, (0, 0, 0), wanted)
-}
-
-/// Where clocks may differ by a millionth no interval is surely as long.
-#[test]
-fn none_leads_where_clocks_differ(rt: HostRuntime) -> Result<(), Fail> {
-    let wanted = b"MARGINS periodic none - -
+",
+    },
+    // Where clocks may differ by a millionth no interval is surely as long.
+    Row {
+        table: FIVE,
+        bounds: (0, 0, 1),
+        lines: b"MARGINS periodic none - -
 ROOM hearing 1 - 2997
 ROOM sync 5 - 724996
 ROOM order 2 5 1 -45021
 ROOM begin 1 2 2496
 BEARS delay - jitter - clocks -
-";
-    has_margins(&rt, FIVE, (0, 0, 1), wanted)
-}
-
-/// A sender that is alone has no rule of order.
-#[test]
-fn one_alone_is_overtaken_by_none(rt: HostRuntime) -> Result<(), Fail> {
-    let wanted = b"MARGINS periodic turns 63996674 64003326
+",
+    },
+    // A sender that is alone has no rule of order.
+    Row {
+        table: ALONE,
+        bounds: (500, 125, 50),
+        lines: b"MARGINS periodic turns 63996674 64003326
 ROOM hearing 1 - 7247
 ROOM sync 1 - 63832941
 ROOM begin 1 - 63975029
 BEARS delay 7747 jitter 3748 clocks 1000
-";
-    has_margins(&rt, ALONE, (500, 125, 50), wanted)
+",
+    },
+];
+
+#[test]
+fn rules_have_their_rooms(rt: HostRuntime) -> Result<(), Fail> {
+    for (k, row) in ROWS.iter().enumerate() {
+        assert!(rt; has_margins(rt.alloc(), row)?, "row {k}");
+    }
+    Ok(())
 }

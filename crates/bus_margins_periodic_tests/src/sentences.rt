@@ -3,7 +3,7 @@
 use bus_margins_periodic::write_drifting;
 use bus_outer::MemorySink;
 use bus_table::{Mode, read_table};
-use std::process::Abort;
+use std::alloc::Global;
 use std::test::Fail;
 
 const KEPT: &[u8] =
@@ -34,71 +34,75 @@ SENDER 5 TG 30 AT 1040
 SEND 105 1 2 4
 ";
 
-/// Checks that this is said of a periodic table.
-fn is_told(rt: &(impl Abort + AllocGlobal), text: &[u8], wanted: &[u8]) -> Result<(), Fail> {
-    let alloc = rt.alloc();
-    let table = read_table(alloc, text)?;
-    match table.mode() {
-        Mode::Periodic => {
-            let mut sink = MemorySink::new(alloc, 600, 600, Vec::new(alloc))?;
-            assert!(rt; write_drifting(&table, &mut sink).is_ok());
-            assert_eq!(rt; sink.bytes(), wanted);
-        }
-        _ => assert!(rt; false),
-    }
-    Ok(())
+/// A periodic table, and what is said of it.
+#[derive(Drop)]
+struct Row {
+    table: &'static [u8],
+    sentence: &'static [u8],
 }
 
-/// There is a bit time for drift at both ends of the round.
-#[test]
-fn turns_are_kept(rt: HostRuntime) -> Result<(), Fail> {
-    let wanted =
-        b"Where oscillators are off by up to 50 millionths and nothing else is inexact, from power-ups at one moment and with no delay \
+const ROWS: [Row; 5] = [
+    // There is a bit time for drift at both ends of the round.
+    Row {
+        table: KEPT,
+        sentence: b"Where oscillators are off by up to 50 millionths and nothing else is inexact, from power-ups at one \
+moment and with no delay \
 on the way, the senders take turns for ever, with as many messages for each and however long these are, though their offsets \
-may drift.\n";
-    is_told(&rt, KEPT, wanted)
-}
-
-/// The last one's message ends where the next round's first gap begins: a start farther away would be worse.
-#[test]
-fn the_end_of_the_round_may_be_too_close(rt: HostRuntime) -> Result<(), Fail> {
-    let wanted =
-        b"Where oscillators are off by up to 50 millionths and nothing else is inexact, from power-ups at one moment and with no delay \
+may drift.\n",
+    },
+    // The last one's message ends where the next round's first gap begins: a start farther away would be worse.
+    Row {
+        table: ROUND,
+        sentence: b"Where oscillators are off by up to 50 millionths and nothing else is inexact, from power-ups at one \
+moment and with no delay \
 on the way, nothing is promised of the senders' turns: the first start of terminal 2 may be too close to the second of \
 terminal 1. It would be enough against that if the offset of terminal 2 were less by about 1 bit time, or if the transmit \
-interval were longer by as much; something else may lack then.\n";
-    is_told(&rt, ROUND, wanted)
-}
-
-/// The second one is due where the first one's message and its own gap end.
-#[test]
-fn first_starts_may_be_too_close(rt: HostRuntime) -> Result<(), Fail> {
-    let wanted =
-        b"Where oscillators are off by up to 50 millionths and nothing else is inexact, from power-ups at one moment and with no delay \
+interval were longer by as much; something else may lack then.\n",
+    },
+    // The second one is due where the first one's message and its own gap end.
+    Row {
+        table: APART,
+        sentence: b"Where oscillators are off by up to 50 millionths and nothing else is inexact, from power-ups at one \
+moment and with no delay \
 on the way, nothing is promised of the senders' turns: the first starts of terminals 1 and 2 may be too close. It would be \
-enough against that if they were farther apart by about 1 bit time; something else may lack then.\n";
-    is_told(&rt, APART, wanted)
-}
-
-/// An interval as short as may be holds no synchronization gap for each.
-#[test]
-fn a_gap_may_come_late(rt: HostRuntime) -> Result<(), Fail> {
-    let wanted =
-        b"Where oscillators are off by up to 50 millionths and nothing else is inexact, from power-ups at one moment and with no delay \
+enough against that if they were farther apart by about 1 bit time; something else may lack then.\n",
+    },
+    // An interval as short as may be holds no synchronization gap for each.
+    Row {
+        table: SYNC,
+        sentence: b"Where oscillators are off by up to 50 millionths and nothing else is inexact, from power-ups at one \
+moment and with no delay \
 on the way, nothing is promised of the senders' turns: a sender may wait for a synchronization gap that comes late. It would \
 be enough against that if the transmit interval were longer by about 257 bit times, to hold one for each sender; something \
-else may lack then.\n";
-    is_told(&rt, SYNC, wanted)
-}
-
-/// The third of them is of the next round, where it comes before the second: in the order from the first on it comes behind.
-#[test]
-fn one_of_the_next_round_may_overtake(rt: HostRuntime) -> Result<(), Fail> {
-    let wanted =
-        b"Where oscillators are off by up to 50 millionths and nothing else is inexact, from power-ups at one moment and with no delay \
+else may lack then.\n",
+    },
+    // The third of them is of the next round, where it comes before the second: in the order from the first on it comes behind.
+    Row {
+        table: ORDER,
+        sentence: b"Where oscillators are off by up to 50 millionths and nothing else is inexact, from power-ups at one \
+moment and with no delay \
 on the way, nothing is promised of the senders' turns: terminal 2 may be late, and hold terminal 5 back until terminal 1 is \
 due too. It would be enough against that if the lengths of the messages from terminal 2 on and before terminal 5 varied by \
 about 91 bit times less in all, or if terminal 5 stood behind terminal 1 in the order from terminal 2 on; something else may \
-lack then.\n";
-    is_told(&rt, ORDER, wanted)
+lack then.\n",
+    },
+];
+
+/// Whether this is said of a row's table.
+fn is_told(alloc: Global, row: &Row) -> Result<bool, Fail> {
+    let table = read_table(alloc, row.table)?;
+    if !matches!(table.mode(), Mode::Periodic) {
+        return Ok(false);
+    }
+    let mut sink = MemorySink::new(alloc, 600, 600, Vec::new(alloc))?;
+    let answer = write_drifting(&table, &mut sink);
+    Ok(answer.is_ok() && sink.bytes() == row.sentence)
+}
+
+#[test]
+fn a_table_is_told_of(rt: HostRuntime) -> Result<(), Fail> {
+    for (k, row) in ROWS.iter().enumerate() {
+        assert!(rt; is_told(rt.alloc(), row)?, "row {k}");
+    }
+    Ok(())
 }

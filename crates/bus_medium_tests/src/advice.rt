@@ -2,27 +2,28 @@
 use bus_advice::{Advice, advices};
 use bus_regime::verdict;
 use bus_table::read_table;
-use std::process::Abort;
+use std::alloc::Global;
 use std::test::Fail;
 
-/// Checks that these are all advices on the table of a text.
-fn has_advices(
-    rt: &(impl Abort + AllocGlobal),
-    text: &[u8],
-    wanted: &[Advice],
-) -> Result<(), Fail> {
-    let table = read_table(rt.alloc(), text)?;
-    let found = advices(rt.alloc(), &table, &verdict(&table))?;
-    assert_eq!(rt; found.as_slice(), wanted);
-    Ok(())
+/// A table, and all advices on it.
+#[derive(Drop)]
+struct Row {
+    table: &'static [u8],
+    advices: &'static [Advice],
 }
 
 /// One bit time is lacking, so each number grows by one, and a word is enough.
-#[test]
-fn a_short_cycle_has_an_advice_of_each_kind(rt: HostRuntime) -> Result<(), Fail> {
-    let text =
-        b"TABLE 1\nMODE aperiodic\nTI 1031\nSG 300\nSENDER 1 TG 20\nSEND 0A1 1 2 4\nSENDER 2 TG 30\nSEND 0B2 1 30 40\n";
-    let wanted = [
+const SHORT_CYCLE: Row = Row {
+    table: b"TABLE 1
+MODE aperiodic
+TI 1031
+SG 300
+SENDER 1 TG 20
+SEND 0A1 1 2 4
+SENDER 2 TG 30
+SEND 0B2 1 30 40
+",
+    advices: &[
         Advice::Interval { ti: 1030 },
         Advice::Synchronization { sg: 301 },
         Advice::Gap {
@@ -44,16 +45,22 @@ fn a_short_cycle_has_an_advice_of_each_kind(rt: HostRuntime) -> Result<(), Fail>
             least: 31,
         },
         Advice::AsPeriodic { ti: 1270 },
-    ];
-    has_advices(&rt, text, &wanted)
-}
+    ],
+};
 
 /// One bit time is lacking, and terminal 5, which stands first in the text and second in turn order, has the next terminal gap.
-#[test]
-fn a_terminal_gap_of_another_sender_is_passed_over(rt: HostRuntime) -> Result<(), Fail> {
-    let text =
-        b"TABLE 1\nMODE aperiodic\nTI 1104\nSG 938\nSENDER 5 TG 21\nSEND 001 0 0 5\nSEND 002 0 1 2\nSENDER 9 TG 20\nSEND 003 0 2 2\n";
-    let wanted = [
+const NEXT_GAP_TAKEN: Row = Row {
+    table: b"TABLE 1
+MODE aperiodic
+TI 1104
+SG 938
+SENDER 5 TG 21
+SEND 001 0 0 5
+SEND 002 0 1 2
+SENDER 9 TG 20
+SEND 003 0 2 2
+",
+    advices: &[
         Advice::Interval { ti: 1103 },
         Advice::Synchronization { sg: 939 },
         Advice::Gap {
@@ -75,26 +82,34 @@ fn a_terminal_gap_of_another_sender_is_passed_over(rt: HostRuntime) -> Result<()
             least: 2,
         },
         Advice::AsPeriodic { ti: 1223 },
-    ];
-    has_advices(&rt, text, &wanted)
-}
+    ],
+};
 
 /// The greatest synchronization gap, the greatest terminal gap and the most data words: the interval is left, and periodic mode.
-#[test]
-fn no_number_leaves_its_range(rt: HostRuntime) -> Result<(), Fail> {
-    let text = b"TABLE 1\nMODE aperiodic\nTI 1321\nSG 1024\nSENDER 1 TG 256\nSEND 001 0 1 1\n";
-    let wanted = [
+const GREATEST_NUMBERS: Row = Row {
+    table: b"TABLE 1
+MODE aperiodic
+TI 1321
+SG 1024
+SENDER 1 TG 256
+SEND 001 0 1 1
+",
+    advices: &[
         Advice::Interval { ti: 1320 },
         Advice::AsPeriodic { ti: 1321 },
-    ];
-    has_advices(&rt, text, &wanted)
-}
+    ],
+};
 
 /// The shortest cycle is 37 bit times, below every transmit interval; 49 words are 980 bit times, 963 are lacking.
-#[test]
-fn a_cycle_below_every_interval_is_made_longer(rt: HostRuntime) -> Result<(), Fail> {
-    let text = b"TABLE 1\nMODE aperiodic\nTI 1000\nSG 9\nSENDER 1 TG 8\nSEND 001 0 0 60\n";
-    let wanted = [
+const SHORTEST_CYCLE: Row = Row {
+    table: b"TABLE 1
+MODE aperiodic
+TI 1000
+SG 9
+SENDER 1 TG 8
+SEND 001 0 0 60
+",
+    advices: &[
         Advice::Synchronization { sg: 972 },
         Advice::Least {
             terminal: 1,
@@ -102,29 +117,40 @@ fn a_cycle_below_every_interval_is_made_longer(rt: HostRuntime) -> Result<(), Fa
             least: 49,
         },
         Advice::AsPeriodic { ti: 1237 },
-    ];
-    has_advices(&rt, text, &wanted)
-}
+    ],
+};
 
-#[test]
-fn want_of_synchronization_is_helped_by_one_bit_time(rt: HostRuntime) -> Result<(), Fail> {
-    let text =
-        b"TABLE 1\nMODE periodic\nTI 1029\nSG 300\nSENDER 1 TG 20 AT 0\nSEND 0A1 1 2 2\nSENDER 2 TG 30 AT 90\nSEND 0B2 1 30 30\n";
-    let wanted = [Advice::Interval { ti: 1030 }, Advice::Plan { ti: 1030 }];
-    has_advices(&rt, text, &wanted)
-}
+/// Want of synchronization is helped by one bit time.
+const NO_SYNC: Row = Row {
+    table: b"TABLE 1
+MODE periodic
+TI 1029
+SG 300
+SENDER 1 TG 20 AT 0
+SEND 0A1 1 2 2
+SENDER 2 TG 30 AT 90
+SEND 0B2 1 30 30
+",
+    advices: &[Advice::Interval { ti: 1030 }, Advice::Plan { ti: 1030 }],
+};
 
-#[test]
-fn an_inner_gap_is_helped_by_other_offsets_alone(rt: HostRuntime) -> Result<(), Fail> {
-    let text =
-        b"TABLE 1\nMODE periodic\nTI 2000\nSG 300\nSENDER 1 TG 20 AT 0\nSEND 0A1 1 2 2\nSENDER 2 TG 30 AT 89\nSEND 0B2 1 30 30\n";
-    has_advices(&rt, text, &[Advice::Plan { ti: 2000 }])
-}
+/// An inner gap is helped by other offsets alone.
+const INNER_GAP: Row = Row {
+    table: b"TABLE 1
+MODE periodic
+TI 2000
+SG 300
+SENDER 1 TG 20 AT 0
+SEND 0A1 1 2 2
+SENDER 2 TG 30 AT 89
+SEND 0B2 1 30 30
+",
+    advices: &[Advice::Plan { ti: 2000 }],
+};
 
 /// Twenty-five wordstrings of 256 data words take more than the greatest transmit interval.
-#[test]
-fn messages_longer_than_every_interval_have_no_advice(rt: HostRuntime) -> Result<(), Fail> {
-    let text = b"TABLE 1
+const LONGEST_MESSAGES: Row = Row {
+    table: b"TABLE 1
 MODE periodic
 TI 128000
 SG 300
@@ -154,37 +180,91 @@ SEND 016 0 256 256
 SEND 017 0 256 256
 SEND 018 0 256 256
 SEND 019 0 256 256
-";
-    has_advices(&rt, text, &[])
-}
+",
+    advices: &[],
+};
 
 /// In periodic mode there is room at the table's own interval, in which no other number would fill a cycle.
-#[test]
-fn light_terminals_go_periodic(rt: HostRuntime) -> Result<(), Fail> {
-    let text =
-        b"TABLE 1\nMODE aperiodic\nTI 20000\nSG 64\nSENDER 1 TG 10\nSEND 0A1 1 2 4\nSENDER 2 TG 20\nSEND 0B2 1 2 4\n";
-    has_advices(&rt, text, &[Advice::AsPeriodic { ti: 20000 }])
-}
+const LIGHT_TERMINALS: Row = Row {
+    table: b"TABLE 1
+MODE aperiodic
+TI 20000
+SG 64
+SENDER 1 TG 10
+SEND 0A1 1 2 4
+SENDER 2 TG 20
+SEND 0B2 1 2 4
+",
+    advices: &[Advice::AsPeriodic { ti: 20000 }],
+};
 
 /// Terminal 1 waits and sends 960 + 10 + 40 bit times at least.
-#[test]
-fn a_table_starts_itself_with_what_its_first_sender_takes(rt: HostRuntime) -> Result<(), Fail> {
-    let text =
-        b"TABLE 1\nMODE aperiodic\nTI 1020\nSG 960\nSENDER 1 TG 10\nSEND 0A1 0 1 1\nSENDER 2 TG 20\nSEND 0B2 0 1 1\n";
-    has_advices(&rt, text, &[Advice::Start { ti: 1010 }])
-}
+const STARTED_LATER: Row = Row {
+    table: b"TABLE 1
+MODE aperiodic
+TI 1020
+SG 960
+SENDER 1 TG 10
+SEND 0A1 0 1 1
+SENDER 2 TG 20
+SEND 0B2 0 1 1
+",
+    advices: &[Advice::Start { ti: 1010 }],
+};
 
 /// Terminal 1 waits and sends 300 + 20 + 60 bit times at least, below every transmit interval.
-#[test]
-fn a_table_that_no_interval_starts_has_no_advice(rt: HostRuntime) -> Result<(), Fail> {
-    let text =
-        b"TABLE 1\nMODE aperiodic\nTI 1030\nSG 300\nSENDER 1 TG 20\nSEND 0A1 1 2 4\nSENDER 2 TG 30\nSEND 0B2 1 30 40\n";
-    has_advices(&rt, text, &[])
+const NEVER_STARTED: Row = Row {
+    table: b"TABLE 1
+MODE aperiodic
+TI 1030
+SG 300
+SENDER 1 TG 20
+SEND 0A1 1 2 4
+SENDER 2 TG 30
+SEND 0B2 1 30 40
+",
+    advices: &[],
+};
+
+/// A table that starts itself has no advice.
+const STARTS_ITSELF: Row = Row {
+    table: b"TABLE 1
+MODE aperiodic
+TI 1010
+SG 960
+SENDER 1 TG 10
+SEND 0A1 0 1 1
+SENDER 2 TG 20
+SEND 0B2 0 1 1
+",
+    advices: &[],
+};
+
+const ROWS: [Row; 11] = [
+    SHORT_CYCLE,
+    NEXT_GAP_TAKEN,
+    GREATEST_NUMBERS,
+    SHORTEST_CYCLE,
+    NO_SYNC,
+    INNER_GAP,
+    LONGEST_MESSAGES,
+    LIGHT_TERMINALS,
+    STARTED_LATER,
+    NEVER_STARTED,
+    STARTS_ITSELF,
+];
+
+/// Whether a row has all advices on its table.
+fn has_advices(alloc: Global, row: &Row) -> Result<bool, Fail> {
+    let table = read_table(alloc, row.table)?;
+    let found = advices(alloc, &table, &verdict(&table))?;
+    Ok(found.as_slice() == row.advices)
 }
 
 #[test]
-fn a_table_that_starts_itself_has_no_advice(rt: HostRuntime) -> Result<(), Fail> {
-    let text =
-        b"TABLE 1\nMODE aperiodic\nTI 1010\nSG 960\nSENDER 1 TG 10\nSEND 0A1 0 1 1\nSENDER 2 TG 20\nSEND 0B2 0 1 1\n";
-    has_advices(&rt, text, &[])
+fn a_refused_table_has_its_advices(rt: HostRuntime) -> Result<(), Fail> {
+    for (k, row) in ROWS.iter().enumerate() {
+        assert!(rt; has_advices(rt.alloc(), row)?, "row {k}");
+    }
+    Ok(())
 }

@@ -1,17 +1,11 @@
-//! What aperiodic tables bear, and which start themselves.
-ghost use Rattle.std.specs.Prelude.{◌≡◌, IsTrue, IfOk};
-ghost use Rattle.bus_table.specs.declared.mode.Mode.TheVariants.{Aperiodic};
-ghost use Rattle.bus_regime.specs.Verdicts.{verdict_of, is_accepted};
-
-use crate::shared::bears_just;
+//! Aperiodic tables, and which start themselves.
 use bus_regime::{starts_itself, verdict};
-use bus_table::{Mode, Table, read_table};
+use bus_table::{Mode, read_table};
 use std::alloc::Global;
-use std::process::Abort;
 use std::test::Fail;
 
 /// Terminal gaps 10 apart bear 4.
-const TWO_SENDERS: &[u8] = b"TABLE 1
+pub(crate) const TWO_SENDERS: &[u8] = b"TABLE 1
 MODE aperiodic
 TI 1000
 SG 300
@@ -22,7 +16,7 @@ SEND 0B2 1 30 40
 ";
 
 /// The same, with a synchronization gap that a transmit interval isn't longer than, and with receivers.
-const WITH_RECEIVERS: &[u8] = b"TABLE 1
+pub(crate) const WITH_RECEIVERS: &[u8] = b"TABLE 1
 MODE aperiodic
 TI 1000
 SG 1000
@@ -36,7 +30,7 @@ TAKE 0B2 1 0 2
 ";
 
 /// Three senders of one label.
-const THREE_CHANNELS: &[u8] = b"TABLE 1
+pub(crate) const THREE_CHANNELS: &[u8] = b"TABLE 1
 MODE aperiodic
 TI 1000
 SG 1000
@@ -49,7 +43,7 @@ SEND 0E1 3 1 3
 ";
 
 /// Terminal gaps that are next to each other bear nothing.
-const NEXT_GAPS: &[u8] = b"TABLE 1
+pub(crate) const NEXT_GAPS: &[u8] = b"TABLE 1
 MODE aperiodic
 TI 1000
 SG 500
@@ -61,7 +55,7 @@ SEND 0D1 0 20 20
 ";
 
 /// The least terminal gap decides.
-const SMALL_GAP: &[u8] = b"TABLE 1
+pub(crate) const SMALL_GAP: &[u8] = b"TABLE 1
 MODE aperiodic
 TI 1000
 SG 1000
@@ -72,7 +66,7 @@ SEND 0B2 1 2 4
 ";
 
 /// The synchronization gap is the nearest, listed against turn order.
-const NEAR_SYNC: &[u8] = b"TABLE 1
+pub(crate) const NEAR_SYNC: &[u8] = b"TABLE 1
 MODE aperiodic
 TI 1000
 SG 210
@@ -85,7 +79,7 @@ SEND 0C3 1 0 0
 ";
 
 /// A sender alone.
-const ALONE: &[u8] = b"TABLE 1
+pub(crate) const ALONE: &[u8] = b"TABLE 1
 MODE aperiodic
 TI 1000
 SG 9
@@ -115,50 +109,56 @@ SENDER 2 TG 20
 SEND 002 0 1 1
 ";
 
-/// An aperiodic table that the verdict accepts.
-fn aperiodic(rt: &impl Abort, alloc: Global, text: &[u8]) -> Result<Table, Fail>
-    ensures mode { IfOk result (λ table. table.mode ≡ Aperiodic) }
-    ensures accepted { IfOk result (λ table. IsTrue (is_accepted (verdict_of table))) }
-{
+/// An aperiodic table, and whether it starts itself.
+#[derive(Drop)]
+struct Row {
+    table: &'static [u8],
+    starts: bool,
+}
+
+const ROWS: [Row; 6] = [
+    Row {
+        table: TWO_SENDERS,
+        starts: false,
+    },
+    Row {
+        table: WITH_RECEIVERS,
+        starts: true,
+    },
+    Row {
+        table: THREE_CHANNELS,
+        starts: true,
+    },
+    Row {
+        table: ALONE,
+        starts: true,
+    },
+    Row {
+        table: JUST_FREE,
+        starts: true,
+    },
+    Row {
+        table: NEVER_FREE,
+        starts: false,
+    },
+];
+
+/// Whether an aperiodic table that the verdict accepts starts itself.
+fn starts(alloc: Global, text: &[u8]) -> Result<Option<bool>, Fail> {
     let table = read_table(alloc, text)?;
-    assert!(rt; matches!(table.mode(), Mode::Aperiodic));
-    assert!(rt; verdict(&table).is_accepted());
-    Ok(table)
-}
-
-#[test]
-fn a_table_bears_its_tolerance_and_no_more(rt: HostRuntime) -> Result<(), Fail> {
-    let alloc = rt.alloc();
-    for (text, most) in [
-        (TWO_SENDERS, 4),
-        (WITH_RECEIVERS, 4),
-        (THREE_CHANNELS, 4),
-        (NEXT_GAPS, 0),
-        (SMALL_GAP, 9),
-        (NEAR_SYNC, 5),
-    ] {
-        bears_just(&rt, alloc, text, Some(most))?;
+    if !matches!(table.mode(), Mode::Aperiodic) || !verdict(&table).is_accepted() {
+        return Ok(None);
     }
-    Ok(())
-}
-
-#[test]
-fn a_sender_alone_bears_all(rt: HostRuntime) -> Result<(), Fail> {
-    bears_just(&rt, rt.alloc(), ALONE, None)
+    Ok(Some(starts_itself(&table)))
 }
 
 #[test]
 fn a_table_starts_itself_where_no_interval_outlasts_a_turn(rt: HostRuntime) -> Result<(), Fail> {
-    let alloc = rt.alloc();
-    for (text, starts) in &[
-        (TWO_SENDERS, false),
-        (WITH_RECEIVERS, true),
-        (THREE_CHANNELS, true),
-        (ALONE, true),
-        (JUST_FREE, true),
-        (NEVER_FREE, false),
-    ] {
-        assert_eq!(rt; starts_itself(&aperiodic(&rt, alloc, text)?), *starts);
+    for (k, row) in ROWS.iter().enumerate() {
+        assert!(rt;
+            starts(rt.alloc(), row.table)? == Some(row.starts),
+            "row {k}"
+        );
     }
     Ok(())
 }

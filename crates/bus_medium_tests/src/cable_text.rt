@@ -1,11 +1,8 @@
 //! Cable texts that are read, and that are refused.
-ghost use Rattle.std.specs.Prelude.{◌≤◌};
-
 use bus_cable::{Cable, CableError, Named, read_cable, write_cable};
 use bus_outer::MemorySink;
 use bus_text::Reason;
 use std::alloc::{AllocError, Global};
-use std::process::Abort;
 use std::test::Fail;
 
 const WHOLE: &[u8] =
@@ -22,62 +19,55 @@ const fn refused(line: u64, reason: Reason) -> Result<usize, CableError> {
     Err(CableError::Text { line, reason })
 }
 
-/// What a text stands for is written as another one, in pieces of so many bytes.
-fn is_written_as(
-    rt: &impl Abort,
-    alloc: Global,
-    text: &[u8],
-    piece: usize,
-    written: &[u8],
-) -> Result<(), Fail>
-    requires { 1 ≤ piece }
-{
+/// A text, and that which is written of what it stands for.
+const WRITTEN: [(&[u8], &[u8]); 2] = [
+    (WHOLE, WHOLE),
+    // Blanks and comments are skipped.
+    (
+        b"# a cable\n\n\tCABLE 1 \r\n  # PLACE\n PLACE\t2  5\nMSG 9 : : beef :",
+        b"CABLE 1\nPLACE 2 5\nMSG 9 : : BEEF :\n",
+    ),
+];
+
+/// Whether what a text stands for is written as another one, in pieces of seven bytes.
+fn is_written_as(alloc: Global, text: &[u8], written: &[u8]) -> Result<bool, Fail> {
     let (cable, payloads) = read_cable(alloc, text)?;
-    let mut sink = MemorySink::new(alloc, 200, piece, Vec::new(alloc))?;
-    assert!(rt; write_cable(&cable, &payloads, &mut sink).is_ok());
-    assert_eq!(rt; sink.bytes(), written);
-    Ok(())
+    let mut sink = MemorySink::new(alloc, 200, 7, Vec::new(alloc))?;
+    let answer = write_cable(&cable, &payloads, &mut sink);
+    Ok(answer.is_ok() && sink.bytes() == written)
+}
+
+/// The places of terminals 1 to 3, and the wakes of 1, 2 and 128.
+fn numbers(cable: &Cable) -> ([u64; 3], [u64; 3]) {
+    (
+        [cable.place(1), cable.place(2), cable.place(3)],
+        [cable.wake(1), cable.wake(2), cable.wake(128)],
+    )
+}
+
+/// The terminals and the places of two.
+fn two_places(places: &[Named]) -> Option<[(u8, u64); 2]> {
+    match places {
+        [first, second] => Some([(first.terminal, first.bits), (second.terminal, second.bits)]),
+        _ => None,
+    }
 }
 
 #[test]
 fn places_wakes_and_items_are_read(rt: HostRuntime) -> Result<(), Fail> {
     let (cable, payloads) = read_cable(rt.alloc(), WHOLE)?;
-    assert_eq!(rt;
-        cable.places(),
-        [
-            Named {
-                terminal: 1,
-                bits: 0
-            },
-            Named {
-                terminal: 2,
-                bits: 1024
-            }
-        ]
-        .as_slice()
-    );
-    assert_eq!(rt;
-        [cable.place(1), cable.place(2), cable.place(3)],
-        [0, 1024, 0]
-    );
-    assert_eq!(rt;
-        [cable.wake(1), cable.wake(2), cable.wake(128)],
-        [4, 0, 1_099_511_627_775]
-    );
-    assert_eq!(rt; payloads.items.len(), 2);
+    assert!(rt; two_places(cable.places()) == Some([(1, 0), (2, 1024)]));
+    assert!(rt; numbers(&cable) == ([0, 1024, 0], [4, 0, 1_099_511_627_775]));
+    assert!(rt; payloads.items.len() == 2);
     Ok(())
 }
 
 #[test]
-fn places_wakes_and_items_are_written_back(rt: HostRuntime) -> Result<(), Fail> {
-    is_written_as(&rt, rt.alloc(), WHOLE, 7, WHOLE)
-}
-
-#[test]
-fn blanks_and_comments_are_skipped(rt: HostRuntime) -> Result<(), Fail> {
-    let text = b"# a cable\n\n\tCABLE 1 \r\n  # PLACE\n PLACE\t2  5\nMSG 9 : : beef :";
-    let written = b"CABLE 1\nPLACE 2 5\nMSG 9 : : BEEF :\n";
-    is_written_as(&rt, rt.alloc(), text, 99, written)
+fn places_wakes_and_items_are_written(rt: HostRuntime) -> Result<(), Fail> {
+    for (k, (text, written)) in WRITTEN.iter().enumerate() {
+        assert!(rt; is_written_as(rt.alloc(), text, written)?, "row {k}");
+    }
+    Ok(())
 }
 
 #[test]
@@ -98,7 +88,9 @@ fn a_text_may_end_behind_each_line_and_not_before_the_first(rt: HostRuntime) {
 /// A text, its first wrong line, and the first reason there.
 type Case<'a> = (&'a [u8], u64, Reason);
 
-const HEADERS_AND_PLACES: [Case<'static>; 19] = [
+/// Of the first wrong line: a header or a place, also one behind a wake; a text without a header ends behind its lines; then a wake or an
+/// item, or what stands behind an item.
+const REFUSED: [Case<'static>; 32] = [
     (b"", 1, Reason::Ended),
     (b"\n# a\n \t\r", 4, Reason::Ended),
     (b"MESSAGES 1\n", 1, Reason::Keyword),
@@ -118,17 +110,6 @@ const HEADERS_AND_PLACES: [Case<'static>; 19] = [
     (b"CABLE 1\nPLACE 1 1\nPLACE 1 1\n", 3, Reason::Range),
     (b"CABLE 1\nPLACE 2 1\nPLACE 1 1\n", 3, Reason::Range),
     (b"CABLE 1\nWAKE 1 1\nPLACE 1 1\n", 3, Reason::Keyword),
-];
-
-/// Of the first wrong line, where it is a header or a place, also one behind a wake; a text without a header ends behind its lines.
-#[test]
-fn the_first_reason_of_a_wrong_header_or_place_is_told(rt: HostRuntime) {
-    for (text, line, reason) in &HEADERS_AND_PLACES {
-        assert!(rt; item_count(rt.alloc(), text) == refused(*line, *reason));
-    }
-}
-
-const WAKES_AND_ITEMS: [Case<'static>; 13] = [
     (b"CABLE 1\nWAKE 1\n", 2, Reason::Fields),
     (b"CABLE 1\nWAKE 1 1 1\n", 2, Reason::Fields),
     (b"CABLE 1\nWAKE 1 -1\n", 2, Reason::Spelling),
@@ -152,11 +133,13 @@ const WAKES_AND_ITEMS: [Case<'static>; 13] = [
     ),
 ];
 
-/// Of the first wrong line, where it is a wake or an item, or stands behind an item.
 #[test]
-fn the_first_reason_of_a_wrong_wake_or_item_is_told(rt: HostRuntime) {
-    for (text, line, reason) in &WAKES_AND_ITEMS {
-        assert!(rt; item_count(rt.alloc(), text) == refused(*line, *reason));
+fn the_first_reason_of_the_first_wrong_line_is_told(rt: HostRuntime) {
+    for (k, (text, line, reason)) in REFUSED.iter().enumerate() {
+        assert!(rt;
+            item_count(rt.alloc(), text) == refused(*line, *reason),
+            "row {k}"
+        );
     }
 }
 
@@ -170,10 +153,16 @@ fn has_places(alloc: Global, places: &[(u8, u64)]) -> Result<bool, AllocError> {
     Ok(Cable::new(named, Vec::new(alloc)).is_some())
 }
 
+const RANGES: [(&[(u8, u64)], bool); 3] = [
+    (&[(1, 0), (3, 1024)], true),
+    (&[(3, 0), (1, 0)], false),
+    (&[(1, 1025)], false),
+];
+
 #[test]
 fn a_cable_keeps_its_ranges(rt: HostRuntime) -> Result<(), Fail> {
-    assert!(rt; has_places(rt.alloc(), &[(1, 0), (3, 1024)])?);
-    assert!(rt; !has_places(rt.alloc(), &[(3, 0), (1, 0)])?);
-    assert!(rt; !has_places(rt.alloc(), &[(1, 1025)])?);
+    for (k, (places, fits)) in RANGES.iter().enumerate() {
+        assert!(rt; has_places(rt.alloc(), places)? == *fits, "row {k}");
+    }
     Ok(())
 }

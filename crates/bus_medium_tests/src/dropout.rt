@@ -1,16 +1,14 @@
 //! Drop-out schedules of small tables.
 ghost use Rattle.std.specs.Prelude.{◌≡◌, IfOk, IsTrue};
-ghost use Rattle.bus_table.specs.declared.mode.Mode.TheVariants.{Aperiodic};
 ghost use Rattle.bus_table.specs.Hands.{are_hands};
+ghost use Rattle.bus_table.specs.declared.mode.Mode.TheVariants.{Aperiodic};
 ghost use Rattle.bus_dropout.specs.DropOut.{LastIsLong};
 
-use crate::shared;
-use crate::shared::{starts_are, text_of};
+use crate::shared::starts_are;
 use bus_dropout::{drop_end, last_cycle, run_dropout};
-use bus_strings::read_messages;
+use bus_hands::read_hands;
 use bus_table::{Hand, Mode, Table, read_table};
-use std::alloc::{AllocError, Global};
-use std::process::Abort;
+use std::alloc::Global;
 use std::test::Fail;
 
 /// A synchronization gap as long as the interval, so that one sender alone keeps it.
@@ -59,75 +57,123 @@ SENDER 1 TG 10
 SEND 0A1 1 0 9
 ";
 
-/// What a drop-out schedule shows: when who starts, and its end.
-type Shown<'a> = (&'a [(u64, u8)], u128);
-
-/// How many messages without data words the three senders have, and what is shown.
-type Case = ([u8; 3], Shown<'static>);
-
-/// Senders that are spent in every order, one without a message, one that goes on alone, and none that has any.
-const CASES: [Case; 9] = [
-    (
-        [1, 2, 3],
-        (
-            &[(10, 1), (50, 2), (100, 3), (1140, 2), (1190, 3), (2240, 3)],
-            2260,
-        ),
-    ),
-    (
-        [1, 3, 2],
-        (
-            &[(10, 1), (50, 2), (100, 3), (1140, 2), (1190, 3), (2230, 2)],
-            2250,
-        ),
-    ),
-    (
-        [2, 1, 3],
-        (
-            &[(10, 1), (50, 2), (100, 3), (1130, 1), (1180, 3), (2230, 3)],
-            2250,
-        ),
-    ),
-    (
-        [2, 3, 1],
-        (
-            &[(10, 1), (50, 2), (100, 3), (1130, 1), (1170, 2), (2210, 2)],
-            2230,
-        ),
-    ),
-    (
-        [3, 1, 2],
-        (
-            &[(10, 1), (50, 2), (100, 3), (1130, 1), (1180, 3), (2210, 1)],
-            2230,
-        ),
-    ),
-    (
-        [3, 2, 1],
-        (
-            &[(10, 1), (50, 2), (100, 3), (1130, 1), (1170, 2), (2200, 1)],
-            2220,
-        ),
-    ),
-    ([0, 2, 1], (&[(20, 2), (70, 3), (1110, 2)], 1130)),
-    ([2, 0, 0], (&[(10, 1), (1040, 1)], 1060)),
-    ([0, 0, 0], (&[], 0)),
-];
-
-/// The hands of these items.
-fn dealt(alloc: Global, table: &Table, items: &[(u8, usize)]) -> Result<Vec<Hand>, Fail>
-    ensures { IfOk result (λ hands. IsTrue (are_hands table.now.senders hands.items)) }
-{
-    let payloads = read_messages(alloc, text_of(alloc, items)?.as_bytes())?;
-    shared::dealt(alloc, table, payloads)
+/// Messages of an aperiodic table, when who starts, and the end of that.
+#[derive(Drop)]
+struct Row {
+    table: &'static [u8],
+    messages: &'static [u8],
+    starts: &'static [(u64, u8)],
+    end: u128,
 }
 
+const ROWS: [Row; 12] = [
+    // The last sender goes on alone.
+    Row {
+        table: TWO_SENDERS,
+        messages: ONE_ALONE,
+        starts: &[(20, 1), (110, 2), (1170, 1)],
+        end: 1230,
+    },
+    // The second sender goes on alone with a short message and a long one, in either order.
+    Row {
+        table: JUST_THE_INTERVAL,
+        messages: SHORT_AND_LONG,
+        starts: &[(20, 1), (150, 2), (1150, 2)],
+        end: 1970,
+    },
+    Row {
+        table: JUST_THE_INTERVAL,
+        messages: LONG_AND_SHORT,
+        starts: &[(20, 1), (150, 2), (1350, 2)],
+        end: 1970,
+    },
+    // Senders that are spent in every order, one without a message, one that goes on alone, and none that has any.
+    Row {
+        table: THREE_SENDERS,
+        messages: b"MESSAGES 1\nMSG 1 :\nMSG 2 :\nMSG 3 :\nMSG 2 :\nMSG 3 :\nMSG 3 :\n",
+        starts: &[(10, 1), (50, 2), (100, 3), (1140, 2), (1190, 3), (2240, 3)],
+        end: 2260,
+    },
+    Row {
+        table: THREE_SENDERS,
+        messages: b"MESSAGES 1\nMSG 1 :\nMSG 2 :\nMSG 3 :\nMSG 2 :\nMSG 3 :\nMSG 2 :\n",
+        starts: &[(10, 1), (50, 2), (100, 3), (1140, 2), (1190, 3), (2230, 2)],
+        end: 2250,
+    },
+    Row {
+        table: THREE_SENDERS,
+        messages: b"MESSAGES 1\nMSG 1 :\nMSG 2 :\nMSG 3 :\nMSG 1 :\nMSG 3 :\nMSG 3 :\n",
+        starts: &[(10, 1), (50, 2), (100, 3), (1130, 1), (1180, 3), (2230, 3)],
+        end: 2250,
+    },
+    Row {
+        table: THREE_SENDERS,
+        messages: b"MESSAGES 1\nMSG 1 :\nMSG 2 :\nMSG 3 :\nMSG 1 :\nMSG 2 :\nMSG 2 :\n",
+        starts: &[(10, 1), (50, 2), (100, 3), (1130, 1), (1170, 2), (2210, 2)],
+        end: 2230,
+    },
+    Row {
+        table: THREE_SENDERS,
+        messages: b"MESSAGES 1\nMSG 1 :\nMSG 2 :\nMSG 3 :\nMSG 1 :\nMSG 3 :\nMSG 1 :\n",
+        starts: &[(10, 1), (50, 2), (100, 3), (1130, 1), (1180, 3), (2210, 1)],
+        end: 2230,
+    },
+    Row {
+        table: THREE_SENDERS,
+        messages: b"MESSAGES 1\nMSG 1 :\nMSG 2 :\nMSG 3 :\nMSG 1 :\nMSG 2 :\nMSG 1 :\n",
+        starts: &[(10, 1), (50, 2), (100, 3), (1130, 1), (1170, 2), (2200, 1)],
+        end: 2220,
+    },
+    Row {
+        table: THREE_SENDERS,
+        messages: b"MESSAGES 1\nMSG 2 :\nMSG 3 :\nMSG 2 :\n",
+        starts: &[(20, 2), (70, 3), (1110, 2)],
+        end: 1130,
+    },
+    Row {
+        table: THREE_SENDERS,
+        messages: b"MESSAGES 1\nMSG 1 :\nMSG 1 :\n",
+        starts: &[(10, 1), (1040, 1)],
+        end: 1060,
+    },
+    Row {
+        table: THREE_SENDERS,
+        messages: b"MESSAGES 1\n",
+        starts: &[],
+        end: 0,
+    },
+];
+
+const ONE_ALONE: &[u8] = b"MESSAGES 1
+MSG 1 : 0000 0000
+MSG 2 : 0000
+MSG 1 : 0000 0000
+";
+
+const SHORT_AND_LONG: &[u8] = b"MESSAGES 1
+MSG 1 : 0000 0000 0000 0000
+MSG 2 : 0000 0000 0000 0000 0000 0000 0000 0000 0000 0000 0000 0000 0000 0000 0000 0000 0000 0000 \
+0000 0000 0000 0000 0000 0000 0000 0000 0000 0000 0000 0000
+MSG 2 : 0000 0000 0000 0000 0000 0000 0000 0000 0000 0000 0000 0000 0000 0000 0000 0000 0000 0000 \
+0000 0000 0000 0000 0000 0000 0000 0000 0000 0000 0000 0000 0000 0000 0000 0000 0000 0000 0000 0000 0000 0000
+";
+
+const LONG_AND_SHORT: &[u8] = b"MESSAGES 1
+MSG 1 : 0000 0000 0000 0000
+MSG 2 : 0000 0000 0000 0000 0000 0000 0000 0000 0000 0000 0000 0000 0000 0000 0000 0000 0000 0000 \
+0000 0000 0000 0000 0000 0000 0000 0000 0000 0000 0000 0000 0000 0000 0000 0000 0000 0000 0000 0000 0000 0000
+MSG 2 : 0000 0000 0000 0000 0000 0000 0000 0000 0000 0000 0000 0000 0000 0000 0000 0000 0000 0000 \
+0000 0000 0000 0000 0000 0000 0000 0000 0000 0000 0000 0000
+";
+
 /// An aperiodic table.
-fn aperiodic(rt: &impl Abort, alloc: Global, text: &[u8]) -> Result<Table, Fail>
+fn aperiodic(alloc: Global, text: &[u8]) -> Result<Table, Fail>
     ensures { IfOk result (λ table. table.mode ≡ Aperiodic) }
 {
     let table = read_table(alloc, text)?;
-    assert!(rt; matches!(table.mode(), Mode::Aperiodic));
+    if !matches!(table.mode(), Mode::Aperiodic) {
+        return Err("an aperiodic table".into());
+    }
     Ok(table)
 }
 
@@ -143,87 +189,93 @@ fn last_is_long(table: &Table, hands: &[Hand]) -> bool
     }
 }
 
-/// The drop-out schedule of an aperiodic table with these items shows this, and its last cycle, where there is one, is long enough.
-fn shows(
-    rt: &impl Abort,
-    alloc: Global,
-    table: &[u8],
-    items: &[(u8, usize)],
-    shown: Shown<'_>,
-) -> Result<(), Fail> {
-    let table = aperiodic(rt, alloc, table)?;
-    let hands = dealt(alloc, &table, items)?;
-    let (starts, end) = shown;
-    assert_eq!(rt; drop_end(&table, &hands), end);
-    assert!(rt; last_is_long(&table, &hands));
-    let list = run_dropout(alloc, &table, hands)?;
-    assert!(rt; starts_are(&list, starts));
-    Ok(())
-}
-
-/// The last cycle of an aperiodic table with these items, and whether it is long enough.
-fn last(
-    rt: &impl Abort,
-    alloc: Global,
-    table: &[u8],
-    items: &[(u8, usize)],
-) -> Result<(Option<u64>, bool), Fail> {
-    let table = aperiodic(rt, alloc, table)?;
-    let hands = dealt(alloc, &table, items)?;
-    Ok((last_cycle(&table, &hands), last_is_long(&table, &hands)))
-}
-
-#[test]
-fn the_last_sender_goes_on_alone(rt: HostRuntime) -> Result<(), Fail> {
-    let items = [(1, 2), (2, 1), (1, 2)];
-    let last = last(&rt, rt.alloc(), TWO_SENDERS, &items)?;
-    assert_eq!(rt; last, (Some(1080), true));
-    let shown: Shown<'_> = (&[(20, 1), (110, 2), (1170, 1)], 1230);
-    shows(&rt, rt.alloc(), TWO_SENDERS, &items, shown)
-}
-
-/// The second sender goes on alone with a short message and a long one, in either order: how many words each has, and when it starts again.
-#[test]
-fn a_last_cycle_of_just_the_interval_is_run(rt: HostRuntime) -> Result<(), Fail> {
-    for (first, second, again) in [(30, 40, 1150), (40, 30, 1350)] {
-        let items = [(1, 4), (2, first), (2, second)];
-        let last = last(&rt, rt.alloc(), JUST_THE_INTERVAL, &items)?;
-        assert_eq!(rt; last, (Some(1000), true));
-        let shown: Shown<'_> = (&[(20, 1), (150, 2), (again, 2)], 1970);
-        shows(&rt, rt.alloc(), JUST_THE_INTERVAL, &items, shown)?;
+/// Whether a row has its drop-out schedule, whose last cycle, where there is one, is long enough.
+fn is_shown(alloc: Global, row: &Row) -> Result<bool, Fail> {
+    let table = aperiodic(alloc, row.table)?;
+    let hands = read_hands(alloc, &table, row.messages)?;
+    if drop_end(&table, &hands) != row.end || !last_is_long(&table, &hands) {
+        return Ok(false);
     }
-    Ok(())
-}
-
-/// The items of a case, round by round.
-fn items(alloc: Global, counts: &[u8; 3]) -> Result<Vec<(u8, usize)>, AllocError> {
-    let mut items = Vec::new(alloc);
-    for round in 0..3u8 {
-        for terminal in 1..4u8 {
-            if round < counts[usize::from(terminal) - 1] {
-                items.push((terminal, 0))?;
-            }
-        }
-    }
-    Ok(items)
+    Ok(starts_are(&run_dropout(alloc, &table, hands)?, row.starts))
 }
 
 #[test]
 fn senders_fall_silent_in_every_order(rt: HostRuntime) -> Result<(), Fail> {
-    for (counts, shown) in &CASES {
-        let items = items(rt.alloc(), counts)?;
-        shows(&rt, rt.alloc(), THREE_SENDERS, &items, *shown)?;
+    for (k, row) in ROWS.iter().enumerate() {
+        assert!(rt; is_shown(rt.alloc(), row)?, "row {k}");
     }
     Ok(())
 }
 
+/// A table and messages, the last cycle, and whether it is long enough.
+#[derive(Drop)]
+struct Last {
+    table: &'static [u8],
+    messages: &'static [u8],
+    cycle: Option<u64>,
+    is_long: bool,
+}
+
+const TWO_LONGEST: &[u8] = b"MESSAGES 1
+MSG 1 : 0000 0000 0000 0000
+MSG 2 : 0000 0000 0000 0000 0000 0000 0000 0000 0000 0000 0000 0000 0000 0000 0000 0000 0000 0000 \
+0000 0000 0000 0000 0000 0000 0000 0000 0000 0000 0000 0000 0000 0000 0000 0000 0000 0000 0000 0000 0000 0000
+MSG 2 : 0000 0000 0000 0000 0000 0000 0000 0000 0000 0000 0000 0000 0000 0000 0000 0000 0000 0000 \
+0000 0000 0000 0000 0000 0000 0000 0000 0000 0000 0000 0000 0000 0000 0000 0000 0000 0000 0000 0000 0000 0000
+";
+
+const ONE_ROUND: &[u8] = b"MESSAGES 1
+MSG 1 : 0000 0000 0000 0000
+MSG 2 : 0000 0000 0000 0000 0000 0000 0000 0000 0000 0000 0000 0000 0000 0000 0000 0000 0000 0000 \
+0000 0000 0000 0000 0000 0000 0000 0000 0000 0000 0000 0000 0000 0000 0000 0000 0000 0000 0000 0000 0000 0000
+";
+
 /// The last cycle counts the senders with the most messages alone, and shortest messages, whatever is sent; one message of each sender
 /// has none.
+const LASTS: [Last; 5] = [
+    Last {
+        table: TWO_SENDERS,
+        messages: ONE_ALONE,
+        cycle: Some(1080),
+        is_long: true,
+    },
+    Last {
+        table: JUST_THE_INTERVAL,
+        messages: SHORT_AND_LONG,
+        cycle: Some(1000),
+        is_long: true,
+    },
+    Last {
+        table: JUST_THE_INTERVAL,
+        messages: LONG_AND_SHORT,
+        cycle: Some(1000),
+        is_long: true,
+    },
+    Last {
+        table: SHORT_GAP,
+        messages: TWO_LONGEST,
+        cycle: Some(950),
+        is_long: false,
+    },
+    Last {
+        table: SHORT_GAP,
+        messages: ONE_ROUND,
+        cycle: None,
+        is_long: true,
+    },
+];
+
+/// Whether a row has its last cycle.
+fn is_last(alloc: Global, row: &Last) -> Result<bool, Fail> {
+    let table = aperiodic(alloc, row.table)?;
+    let hands = read_hands(alloc, &table, row.messages)?;
+    Ok(last_cycle(&table, &hands) == row.cycle && last_is_long(&table, &hands) == row.is_long)
+}
+
 #[test]
 fn the_last_cycle_is_that_of_the_senders_that_go_on(rt: HostRuntime) -> Result<(), Fail> {
-    let one_alone = last(&rt, rt.alloc(), SHORT_GAP, &[(1, 4), (2, 40), (2, 40)])?;
-    assert_eq!(rt; one_alone, (Some(950), false));
-    let one_round = last(&rt, rt.alloc(), SHORT_GAP, &[(1, 4), (2, 40)])?;
-    assert_eq!(rt; one_round, (None, true));
+    for (k, row) in LASTS.iter().enumerate() {
+        assert!(rt; is_last(rt.alloc(), row)?, "row {k}");
+    }
     Ok(())
 }

@@ -20,11 +20,15 @@ mod heard;
 #[cfg(test)]
 mod medium;
 #[cfg(test)]
+mod medium_rows;
+#[cfg(test)]
 mod periodic_reach;
 #[cfg(test)]
 mod plan;
 #[cfg(test)]
 mod propagation;
+#[cfg(test)]
+mod propagation_rows;
 #[cfg(test)]
 mod regime;
 #[cfg(test)]

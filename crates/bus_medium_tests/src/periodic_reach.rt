@@ -1,5 +1,9 @@
-//! What periodic tables bear.
-use crate::shared::bears_just;
+//! What periodic and aperiodic tables bear.
+use crate::aperiodic_reach;
+use bus_reach::{bears, tolerance};
+use bus_regime::verdict;
+use bus_table::read_table;
+use std::alloc::Global;
 use std::test::Fail;
 
 /// The gap of terminal 2 is just its terminal gap.
@@ -86,23 +90,92 @@ SENDER 1 TG 20 AT 0
 SEND 0A1 1 2 2
 ";
 
-#[test]
-fn a_periodic_table_bears_its_tolerance_and_no_more(rt: HostRuntime) -> Result<(), Fail> {
-    let alloc = rt.alloc();
-    for (text, most) in [
-        (JUST_WIDE, 0),
-        (FOUR_WIDER, 4),
-        (VARYING, 0),
-        (PLANNED, 1),
-        (BY_SYNC, 4),
-        (BY_SEVERAL, 3),
-    ] {
-        bears_just(&rt, alloc, text, Some(most))?;
+/// A table that is accepted, and the greatest delay that it bears, or that it bears any.
+#[derive(Drop)]
+struct Row {
+    table: &'static [u8],
+    most: Option<u64>,
+}
+
+const ROWS: [Row; 14] = [
+    Row {
+        table: aperiodic_reach::TWO_SENDERS,
+        most: Some(4),
+    },
+    Row {
+        table: aperiodic_reach::WITH_RECEIVERS,
+        most: Some(4),
+    },
+    Row {
+        table: aperiodic_reach::THREE_CHANNELS,
+        most: Some(4),
+    },
+    Row {
+        table: aperiodic_reach::NEXT_GAPS,
+        most: Some(0),
+    },
+    Row {
+        table: aperiodic_reach::SMALL_GAP,
+        most: Some(9),
+    },
+    Row {
+        table: aperiodic_reach::NEAR_SYNC,
+        most: Some(5),
+    },
+    Row {
+        table: aperiodic_reach::ALONE,
+        most: None,
+    },
+    Row {
+        table: JUST_WIDE,
+        most: Some(0),
+    },
+    Row {
+        table: FOUR_WIDER,
+        most: Some(4),
+    },
+    Row {
+        table: VARYING,
+        most: Some(0),
+    },
+    Row {
+        table: PLANNED,
+        most: Some(1),
+    },
+    Row {
+        table: BY_SYNC,
+        most: Some(4),
+    },
+    Row {
+        table: BY_SEVERAL,
+        most: Some(3),
+    },
+    Row {
+        table: ALONE,
+        most: None,
+    },
+];
+
+/// Whether a row's table is accepted, and bears just so much delay, or any.
+fn bears_just(alloc: Global, row: &Row) -> Result<bool, Fail> {
+    let table = read_table(alloc, row.table)?;
+    if !verdict(&table).is_accepted() || tolerance(&table) != row.most {
+        return Ok(false);
     }
-    Ok(())
+    Ok(match row.most {
+        None => bears(&table, u64::MAX),
+        Some(most) => {
+            bears(&table, most)
+                && !bears(&table, most.saturating_add(1))
+                && !bears(&table, u64::MAX)
+        }
+    })
 }
 
 #[test]
-fn a_periodic_sender_alone_bears_all(rt: HostRuntime) -> Result<(), Fail> {
-    bears_just(&rt, rt.alloc(), ALONE, None)
+fn a_table_bears_its_tolerance_and_no_more(rt: HostRuntime) -> Result<(), Fail> {
+    for (k, row) in ROWS.iter().enumerate() {
+        assert!(rt; bears_just(rt.alloc(), row)?, "row {k}");
+    }
+    Ok(())
 }

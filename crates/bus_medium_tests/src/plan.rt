@@ -1,65 +1,100 @@
 //! Plans of worked tables.
 use bus_plan::{PlanAnswer, plan};
 use bus_regime::verdict;
-use bus_table::{Mode, read_table};
-use std::process::Abort;
+use bus_table::{Mode, Table, read_table};
+use std::alloc::Global;
 use std::test::Fail;
 
-fn planned(rt: &(impl Abort + AllocGlobal), text: &[u8]) -> Result<PlanAnswer, Fail> {
-    let table = read_table(rt.alloc(), text)?;
-    assert!(rt; matches!(table.mode(), Mode::Periodic));
-    let answer = plan(rt.alloc(), &table)?;
-    Ok(answer)
+/// What a plan of two senders shows: their offsets, where the planned table is accepted, or the least interval and the table's own.
+#[derive(Clone, Copy, PartialEq)]
+enum Shown {
+    Offsets([u32; 2]),
+    Infeasible { least: u64, ti: u64 },
+    Other,
 }
 
-/// Checks that two senders are planned at these offsets, and accepted.
-fn has_offsets(
-    rt: &(impl Abort + AllocGlobal),
-    text: &[u8],
-    first: u32,
-    second: u32,
-) -> Result<(), Fail> {
-    match planned(rt, text)? {
-        PlanAnswer::Planned(table) => {
-            assert!(rt; verdict(&table).is_accepted());
-            match table.senders() {
-                [one, two] => assert_eq!(rt;
-                    (one.number(), one.at(), two.at()),
-                    (1, first, second)
-                ),
-                _ => panic!(rt; "two senders"),
-            }
-            Ok(())
-        }
-        PlanAnswer::Infeasible { least: _, ti: _ } => Err(Fail::from("a plan")),
+/// A table, and what its plan shows.
+#[derive(Drop)]
+struct Row {
+    table: &'static [u8],
+    shown: Shown,
+}
+
+const ROWS: [Row; 3] = [
+    // The greatest terminal gap goes first.
+    Row {
+        table: b"TABLE 1
+MODE periodic
+TI 2000
+SG 300
+SENDER 1 TG 20 AT 0
+SEND 0A1 1 2 2
+SENDER 2 TG 30 AT 90
+SEND 0B2 1 30 30
+",
+        shown: Shown::Offsets([640, 0]),
+    },
+    // Two synchronization gaps stand in place of great terminal gaps.
+    Row {
+        table: b"TABLE 1
+MODE periodic
+TI 1354
+SG 257
+SENDER 1 TG 256 AT 0
+SEND 001 0 20 20
+SENDER 2 TG 255 AT 0
+SEND 002 0 20 20
+",
+        shown: Shown::Offsets([0, 677]),
+    },
+    // A short interval is told with the least.
+    Row {
+        table: b"TABLE 1
+MODE periodic
+TI 1353
+SG 257
+SENDER 1 TG 256 AT 0
+SEND 001 0 20 20
+SENDER 2 TG 255 AT 0
+SEND 002 0 20 20
+",
+        shown: Shown::Infeasible {
+            least: 1354,
+            ti: 1353,
+        },
+    },
+];
+
+/// The offsets of two senders, terminal 1 first, of a table that is accepted.
+fn offsets(table: &Table) -> Shown {
+    match table.senders() {
+        [one, two] if one.number() == 1 && verdict(table).is_accepted() => Shown::Offsets([
+            one.at(),
+            two.at(),
+        ]),
+        _ => Shown::Other,
     }
 }
 
-#[test]
-fn the_greatest_terminal_gap_goes_first(rt: HostRuntime) -> Result<(), Fail> {
-    let text =
-        b"TABLE 1\nMODE periodic\nTI 2000\nSG 300\nSENDER 1 TG 20 AT 0\nSEND 0A1 1 2 2\nSENDER 2 TG 30 AT 90\nSEND 0B2 1 30 30\n";
-    has_offsets(&rt, text, 640, 0)
+/// What the plan of a periodic table shows.
+fn planned(alloc: Global, text: &[u8]) -> Result<Shown, Fail> {
+    let table = read_table(alloc, text)?;
+    if !matches!(table.mode(), Mode::Periodic) {
+        return Ok(Shown::Other);
+    }
+    Ok(match &plan(alloc, &table)? {
+        PlanAnswer::Planned(table) => offsets(table),
+        PlanAnswer::Infeasible { least, ti } => Shown::Infeasible {
+            least: *least,
+            ti: *ti,
+        },
+    })
 }
 
 #[test]
-fn two_synchronization_gaps_stand_in_place_of_great_terminal_gaps(
-    rt: HostRuntime,
-) -> Result<(), Fail> {
-    let text =
-        b"TABLE 1\nMODE periodic\nTI 1354\nSG 257\nSENDER 1 TG 256 AT 0\nSEND 001 0 20 20\nSENDER 2 TG 255 AT 0\nSEND 002 0 20 20\n";
-    has_offsets(&rt, text, 0, 677)
-}
-
-#[test]
-fn a_short_interval_is_told_with_the_least(rt: HostRuntime) -> Result<(), Fail> {
-    let text =
-        b"TABLE 1\nMODE periodic\nTI 1353\nSG 257\nSENDER 1 TG 256 AT 0\nSEND 001 0 20 20\nSENDER 2 TG 255 AT 0\nSEND 002 0 20 20\n";
-    match planned(&rt, text)? {
-        PlanAnswer::Infeasible { least, ti } => {
-            assert_eq!(rt; (least, ti), (1354, 1353));
-        }
-        PlanAnswer::Planned(_table) => return Err(Fail::from("no plan")),
+fn a_plan_has_its_offsets_or_the_least_interval(rt: HostRuntime) -> Result<(), Fail> {
+    for (k, row) in ROWS.iter().enumerate() {
+        assert!(rt; planned(rt.alloc(), row.table)? == row.shown, "row {k}");
     }
     Ok(())
 }

@@ -2,14 +2,13 @@
 ghost use Rattle.std.specs.Prelude.{IfOk, IsTrue};
 ghost use Rattle.bus_schedule.specs.Even.{are_even};
 
-use crate::shared::{dealt, starts_are, text_of};
+use crate::shared::{TWO_ROUNDS, starts_are};
+use bus_hands::read_hands;
 use bus_regime::verdict;
 use bus_schedule::{ScheduleError, closed, closed_end, find_uneven, run_settled};
-use bus_strings::read_messages;
 use bus_table::{Hand, Table, read_table};
 use bus_timers::DeadlineCore;
 use std::alloc::{AllocError, Global};
-use std::process::Abort;
 use std::test::Fail;
 
 /// Two senders with terminal gaps 20 and 30, of one wordstring each.
@@ -65,95 +64,117 @@ SENDER 1 TG 20 AT 0
 SEND 001 0 0 0
 ";
 
-/// Two rounds of `TWO_SENDERS`: terminals, and the data words of their messages.
-const TWO_ROUNDS: [(u8, usize); 4] = [(1, 2), (2, 30), (1, 2), (2, 30)];
+/// The second message of terminal 2 is longer than its first.
+const LONGER_LAST: &[u8] = b"MESSAGES 1
+MSG 1 : 0000 0000
+MSG 2 : 0000 0000 0000 0000 0000 0000 0000 0000 0000 0000 0000 0000 0000 0000 0000 \
+0000 0000 0000 0000 0000 0000 0000 0000 0000 0000 0000 0000 0000 0000 0000
+MSG 1 : 0000 0000
+MSG 2 : 0000 0000 0000 0000 0000 0000 0000 0000 0000 0000 0000 0000 0000 0000 0000 0000 0000 0000 0000 0000 \
+0000 0000 0000 0000 0000 0000 0000 0000 0000 0000 0000 0000 0000 0000 0000 0000 0000 0000 0000 0000
+";
 
-/// The hands of these items, which are even.
-fn even_hands(
-    rt: &impl Abort,
-    alloc: Global,
-    table: &Table,
-    items: &[(u8, usize)],
-) -> Result<Vec<Hand>, Fail>
+/// A table, messages, when who starts, and the end of that.
+#[derive(Drop)]
+struct Row {
+    table: &'static [u8],
+    messages: &'static [u8],
+    starts: &'static [(u64, u8)],
+    end: u64,
+}
+
+/// By gaps and messages.
+const TURNS: Row = Row {
+    table: TWO_SENDERS,
+    messages: TWO_ROUNDS,
+    starts: &[(20, 1), (110, 2), (1050, 1), (1140, 2)],
+    end: 1760,
+};
+
+/// A refused table has a closed schedule too, in which senders at the same offset stand by number.
+const TOGETHER: Row = Row {
+    table: SAME_OFFSET,
+    messages: TWO_ROUNDS,
+    starts: &[(0, 1), (0, 2), (2000, 1), (2000, 2)],
+    end: 2620,
+};
+
+/// It doesn't look at an interval that is longer than the shortest cycle.
+const TOO_SHORT: Row = Row {
+    table: SHORT_CYCLE,
+    messages: TWO_ROUNDS,
+    starts: &[(20, 1), (110, 2), (1050, 1), (1140, 2)],
+    end: 1760,
+};
+
+/// A longer message moves no start.
+const AT_OFFSETS: Row = Row {
+    table: TWO_OFFSETS,
+    messages: LONGER_LAST,
+    starts: &[(0, 1), (90, 2), (2000, 1), (2090, 2)],
+    end: 2910,
+};
+
+/// The hands of a messages text, which are even.
+fn even_hands(alloc: Global, table: &Table, messages: &[u8]) -> Result<Vec<Hand>, Fail>
     ensures { IfOk result (λ hands. IsTrue (are_even table.now hands.items)) }
 {
-    let payloads = read_messages(alloc, text_of(alloc, items)?.as_bytes())?;
-    let hands = dealt(alloc, table, payloads)?;
-    assert!(rt; find_uneven(table, &hands).is_none());
+    let hands = read_hands(alloc, table, messages)?;
+    if find_uneven(table, &hands).is_some() {
+        return Err("even hands".into());
+    }
     Ok(hands)
 }
 
-/// So many messages of terminal 1 without data words.
-fn label_words(alloc: Global, count: usize) -> Result<Vec<(u8, usize)>, AllocError> {
-    vec![in alloc; (1, 0); count]
-}
-
-/// What a schedule shows: when who starts, and its end.
-type Shown<'a> = (&'a [(u64, u8)], u128);
-
-/// The closed schedule of two rounds of a table, accepted or not, shows this.
-fn has_schedule(
-    rt: &impl Abort,
-    alloc: Global,
-    table: &[u8],
-    accepted: bool,
-    shown: Shown<'_>,
-) -> Result<(), Fail> {
-    let table = read_table(alloc, table)?;
-    assert_eq!(rt; verdict(&table).is_accepted(), accepted);
-    let hands = even_hands(rt, alloc, &table, &TWO_ROUNDS)?;
-    let (starts, end) = shown;
-    assert_eq!(rt; closed_end(&table, &hands), end);
-    let list = closed(alloc, &table, &hands)?;
-    assert!(rt; starts_are(&list, starts));
-    Ok(())
+/// Whether the closed schedule of a table, which is accepted or not, is that of the row.
+fn has_schedule(alloc: Global, row: &Row, accepted: bool) -> Result<bool, Fail> {
+    let table = read_table(alloc, row.table)?;
+    let hands = even_hands(alloc, &table, row.messages)?;
+    if verdict(&table).is_accepted() != accepted
+        || closed_end(&table, &hands) != u128::from(row.end)
+    {
+        return Ok(false);
+    }
+    Ok(starts_are(&closed(alloc, &table, &hands)?, row.starts))
 }
 
 #[test]
-fn two_rounds_are_laid_by_gaps_and_messages(rt: HostRuntime) -> Result<(), Fail> {
-    let shown: Shown<'_> = (&[(20, 1), (110, 2), (1050, 1), (1140, 2)], 1760);
-    has_schedule(&rt, rt.alloc(), TWO_SENDERS, true, shown)
+fn a_table_has_its_schedule_accepted_or_not(rt: HostRuntime) -> Result<(), Fail> {
+    for (k, (row, accepted)) in [(&TURNS, true), (&TOGETHER, false), (&TOO_SHORT, false)]
+        .iter()
+        .enumerate()
+    {
+        assert!(rt; has_schedule(rt.alloc(), row, *accepted)?, "row {k}");
+    }
+    Ok(())
 }
 
-/// The bus of an accepted table runs so with these items.
-fn runs(
-    rt: &impl Abort,
-    alloc: Global,
-    table: &[u8],
-    items: &[(u8, usize)],
-    (starts, end): (&[(u64, u8)], u64),
-) -> Result<(), Fail> {
-    let table = read_table(alloc, table)?;
-    let hands = even_hands(rt, alloc, &table, items)?;
-    assert!(rt; verdict(&table).is_accepted());
+/// Whether the bus of an accepted table runs as the row says.
+fn runs(alloc: Global, row: &Row) -> Result<bool, Fail> {
+    let table = read_table(alloc, row.table)?;
+    let hands = even_hands(alloc, &table, row.messages)?;
+    if !verdict(&table).is_accepted() {
+        return Ok(false);
+    }
     let ran = run_settled::<DeadlineCore>(alloc, &table, hands)?;
-    assert!(rt; starts_are(&ran.list, starts));
-    assert_eq!(rt; ran.end, end);
-    Ok(())
+    Ok(starts_are(&ran.list, row.starts) && ran.end == row.end)
 }
 
 #[test]
 fn the_bus_runs_as_the_schedule_says(rt: HostRuntime) -> Result<(), Fail> {
-    let starts = [(20, 1), (110, 2), (1050, 1), (1140, 2)];
-    runs(&rt, rt.alloc(), TWO_SENDERS, &TWO_ROUNDS, (&starts, 1760))
+    for (k, row) in [&TURNS, &AT_OFFSETS].iter().enumerate() {
+        assert!(rt; runs(rt.alloc(), row)?, "row {k}");
+    }
+    Ok(())
 }
 
-/// The second message of terminal 2 is longer than its first, which moves no start.
-#[test]
-fn a_periodic_bus_starts_at_its_offsets(rt: HostRuntime) -> Result<(), Fail> {
-    let items = [(1, 2), (2, 30), (1, 2), (2, 40)];
-    let starts = [(0, 1), (90, 2), (2000, 1), (2090, 2)];
-    runs(&rt, rt.alloc(), TWO_OFFSETS, &items, (&starts, 2910))
-}
-
-/// A refused table has a closed schedule too, in which senders at the same offset stand by number, and which doesn't look at
-/// an interval that is longer than the shortest cycle.
-#[test]
-fn a_refused_table_has_a_schedule(rt: HostRuntime) -> Result<(), Fail> {
-    let together: Shown<'_> = (&[(0, 1), (0, 2), (2000, 1), (2000, 2)], 2620);
-    has_schedule(&rt, rt.alloc(), SAME_OFFSET, false, together)?;
-    let turns: Shown<'_> = (&[(20, 1), (110, 2), (1050, 1), (1140, 2)], 1760);
-    has_schedule(&rt, rt.alloc(), SHORT_CYCLE, false, turns)
+/// So many messages of terminal 1 without data words.
+fn label_words(alloc: Global, count: usize) -> Result<Vec<u8>, AllocError> {
+    let mut text = Vec::from_slice(alloc, b"MESSAGES 1\n")?;
+    for _ in 0..count {
+        text.extend_from_slice(b"MSG 1 :\n")?;
+    }
+    Ok(text)
 }
 
 /// 536,872 messages of `ONE_SENDER` end behind the limit.
@@ -162,7 +183,7 @@ fn a_schedule_above_the_limit_is_refused(rt: HostRuntime) -> Result<(), Fail> {
     let alloc = rt.alloc();
     let table = read_table(alloc, ONE_SENDER)?;
     assert!(rt; verdict(&table).is_accepted());
-    let hands = even_hands(&rt, alloc, &table, &label_words(alloc, 536_872)?)?;
+    let hands = even_hands(alloc, &table, &label_words(alloc, 536_872)?)?;
     let too_long = ScheduleError::TooLong {
         end: 68_719_488_020,
     };

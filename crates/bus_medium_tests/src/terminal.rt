@@ -1,54 +1,53 @@
 //! Tries of a terminal alone and of its stretches.
 ghost use Rattle.std.specs.Prelude.{◌+◌, ◌≤◌};
 
+use bus_hands::read_hands;
 use bus_medium::Terminal;
-use bus_strings::{Message, Wordstring, bits, is_on};
-use bus_table::Hand;
+use bus_strings::{Message, bits, is_on};
+use bus_table::{Hand, read_table};
 use bus_timers::{Core, CounterCore, DeadlineCore, JumpCore, Timing};
-use bus_words::{Ext, Label};
-use std::alloc::Global;
+use std::alloc::{AllocError, Global};
+use std::process::Abort;
 use std::test::Fail;
 
-/// A message of two wordstrings, of two and of three words: its pulses are 40 and 60 bit times long.
-fn message(alloc: Global) -> Result<Message, Fail> {
-    let mut strings = Vec::new(alloc);
-    for data_words in [1, 2] {
-        let label = Label::new(0x0A1).ok_or("label")?;
-        let ext = Ext::new(1).ok_or("extension")?;
-        let words = vec![in alloc; 0u16; data_words]?;
-        strings.push(Wordstring::new(label, ext, words)?.ok_or("wordstring")?)?;
-    }
-    Ok(Message::new(strings).ok_or("message")?)
-}
+/// Terminal 7 sends two wordstrings, of two and of three words.
+const TABLE: &[u8] = b"TABLE 1
+MODE aperiodic
+TI 1000
+SG 300
+SENDER 7 TG 20
+SEND 0A1 1 1 1
+SEND 0A2 1 2 2
+";
 
-/// A hand of two such messages.
+/// Twice: its pulses are 40 and 60 bit times long.
+const TWO_MESSAGES: &[u8] = b"MESSAGES 1
+MSG 7 : 0000 : 0000 0000
+MSG 7 : 0000 : 0000 0000
+";
+
+const TIMING: Timing = Timing {
+    ti: 1000,
+    sg: 300,
+    tg: 20,
+    quiet: 300,
+    due: 0,
+};
+
+/// The hand of the two messages.
 fn hand(alloc: Global) -> Result<Hand, Fail> {
-    let mut messages = Vec::new(alloc);
-    for _ in 0..2 {
-        messages.push(message(alloc)?)?;
-    }
-    Ok(Hand {
-        terminal: 7,
-        messages,
-    })
+    let table = read_table(alloc, TABLE)?;
+    let mut hands = read_hands(alloc, &table, TWO_MESSAGES)?;
+    Ok(hands.pop().ok_or("hand")?)
 }
 
-/// The first start comes a terminal gap behind the settled start, and the second when the transmit interval has
-/// elapsed. In between the terminal has exactly the pulses of its message.
-#[test]
-fn a_terminal_alone_sends_its_messages(rt: HostRuntime) -> Result<(), Fail> {
-    let alloc = rt.alloc();
-    let hand = hand(alloc)?;
-    let timing = Timing {
-        ti: 1000,
-        sg: 300,
-        tg: 20,
-        quiet: 300,
-        due: 0,
-    };
-    let mut terminal = Terminal::new(CounterCore::settled(timing), hand);
-    assert_eq!(rt; terminal.number(), 7);
-    let sent = message(alloc)?;
+/// When the terminal starts, alone on its bus, which then has exactly the pulses of its message.
+fn starts(
+    rt: &impl Abort,
+    alloc: Global,
+    terminal: &mut Terminal<CounterCore>,
+    sent: &Message,
+) -> Result<Vec<u32>, AllocError> {
     let mut starts: Vec<u32> = Vec::new(alloc);
     for t in 0..2100u32 {
         if terminal.decide() {
@@ -56,14 +55,29 @@ fn a_terminal_alone_sends_its_messages(rt: HostRuntime) -> Result<(), Fail> {
         }
         let now = match starts.last() {
             None => false,
-            Some(start) => is_on(&sent, t.saturating_sub(*start)),
+            Some(start) => is_on(sent, t.saturating_sub(*start)),
         };
         let carrier = terminal.is_on();
-        assert_eq!(rt; carrier, now, "at {t}");
+        assert!(rt; carrier == now, "at {t}");
         terminal.pass(carrier);
     }
-    assert_eq!(rt; starts.as_slice(), [20, 1020].as_slice());
-    assert_eq!(rt; terminal.sent(), 2);
+    Ok(starts)
+}
+
+/// The first start comes a terminal gap behind the settled start, and the second when the transmit interval has
+/// elapsed. The terminal shows its number, and its messages of 104 bit times.
+#[test]
+fn a_terminal_alone_sends_its_messages(rt: HostRuntime) -> Result<(), Fail> {
+    let mut terminal = Terminal::new(CounterCore::settled(TIMING), hand(rt.alloc())?);
+    assert!(rt; terminal.number() == 7);
+    let other = hand(rt.alloc())?;
+    let [sent, _] = other.messages.as_slice() else {
+        return Err("two messages".into());
+    };
+    assert!(rt; bits(sent) == 104);
+    let starts = starts(&rt, rt.alloc(), &mut terminal, sent)?;
+    assert!(rt; starts.as_slice() == [20, 1020].as_slice());
+    assert!(rt; terminal.sent() == 2);
     Ok(())
 }
 
@@ -88,23 +102,14 @@ fn next_change<C: JumpCore>(terminal: &mut Terminal<C>) -> Option<u64>
 /// A wait, a pulse, the quiet behind it and another pulse, twice. Then nothing is left that it waits for.
 #[test]
 fn a_terminal_alone_jumps_from_change_to_change(rt: HostRuntime) -> Result<(), Fail> {
-    let alloc = rt.alloc();
-    let hand = hand(alloc)?;
-    let timing = Timing {
-        ti: 1000,
-        sg: 300,
-        tg: 20,
-        quiet: 300,
-        due: 0,
-    };
-    let mut terminal = Terminal::new(DeadlineCore::settled(timing), hand);
+    let mut terminal = Terminal::new(DeadlineCore::settled(TIMING), hand(rt.alloc())?);
     let first = [
         next_change(&mut terminal),
         next_change(&mut terminal),
         next_change(&mut terminal),
         next_change(&mut terminal),
     ];
-    assert_eq!(rt; first, [Some(20), Some(40), Some(4), Some(60)]);
+    assert!(rt; first == [Some(20), Some(40), Some(4), Some(60)]);
     let second = [
         next_change(&mut terminal),
         next_change(&mut terminal),
@@ -112,27 +117,17 @@ fn a_terminal_alone_jumps_from_change_to_change(rt: HostRuntime) -> Result<(), F
         next_change(&mut terminal),
         next_change(&mut terminal),
     ];
-    assert_eq!(rt; second, [Some(896), Some(40), Some(4), Some(60), None]);
-    assert_eq!(rt; (terminal.sent(), terminal.moves()), (2, 8));
+    assert!(rt; second == [Some(896), Some(40), Some(4), Some(60), None]);
+    assert!(rt; (terminal.sent(), terminal.moves()) == (2, 8));
     Ok(())
 }
 
+/// The length of the first message that a terminal shows, and its number.
 #[test]
 fn a_terminal_shows_its_messages(rt: HostRuntime) -> Result<(), Fail> {
-    let alloc = rt.alloc();
-    let messages = vec![in alloc; message(alloc)?]?;
-    let hand = Hand {
-        terminal: 128,
-        messages,
-    };
-    let timing = Timing {
-        ti: 1000,
-        sg: 9,
-        tg: 8,
-        quiet: 9,
-        due: 0,
-    };
-    let terminal = Terminal::new(CounterCore::settled(timing), hand);
-    assert_eq!(rt; (terminal.number(), bits(terminal.message(0))), (128, 104));
+    let hand = hand(rt.alloc())?;
+    assert!(rt; hand.messages.len() == 2);
+    let terminal = Terminal::new(CounterCore::settled(TIMING), hand);
+    assert!(rt; (terminal.number(), bits(terminal.message(0))) == (7, 104));
     Ok(())
 }

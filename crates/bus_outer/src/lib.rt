@@ -28,8 +28,6 @@ mod read_ahead;
 mod sink;
 mod source;
 mod steady_source;
-#[cfg(test)]
-mod tests;
 mod text_buffer;
 mod waiting;
 mod whole;

@@ -5,7 +5,6 @@ use bus_outer::MemorySource;
 use bus_table::read_table;
 use bus_trace::read_trace;
 use std::alloc::{AllocError, Global};
-use std::process::Abort;
 use std::test::Fail;
 
 const LONG_GAPS: &[u8] =
@@ -65,150 +64,163 @@ pub(crate) fn said(alloc: Global, table: &[u8], head: &[u8], sent: &[u8]) -> Res
     })
 }
 
-/// The HORIZON and HOLD lines of a trace, what was sent, and what the audit says.
-type Row<'a> = (&'a [u8], &'a [u8], Said);
-
-/// The audit of a table says this of each row.
-fn says(rt: &impl Abort, alloc: Global, table: &[u8], rows: &[Row<'_>]) -> Result<(), Fail> {
-    for (head, sent, wanted) in rows {
-        assert_eq!(rt; said(alloc, table, head, sent)?, *wanted);
-    }
-    Ok(())
-}
-
-const STRANGERS_AND_UNHELD: &[Row<'static>] = &[
-    (
-        ONE_EACH,
-        b"TX 20 1\nWS L0A111 D00001 D00001\nTX 110 2\nWS L0B210 D00001\n",
-        Ok(0),
-    ),
-    (
-        ONE_EACH,
-        b"TX 10 4\nWS L0A111 D00001 D00001\nTX 20 1\nWS L0A111 D00001 D00001\nTX 110 2\nWS L0B210 D00001\n",
-        Err((10, 4, Stranger)),
-    ),
-    (
-        b"HORIZON 150\nHOLD 1 0\nHOLD 2 1\n",
-        b"TX 20 1\nWS L0A111 D00001 D00001\nTX 110 2\nWS L0B210 D00001\n",
-        Err((20, 1, Unheld)),
-    ),
-    (
-        b"HORIZON 150\nHOLD 1 1\n",
-        b"TX 20 1\nWS L0A111 D00001 D00001\nTX 110 2\nWS L0B210 D00001\n",
-        Err((110, 2, Unheld)),
-    ),
-];
-
-/// A lawful trace, and one change each: a stranger sends, or a sender that held no message.
-#[test]
-fn strangers_and_unheld_messages_are_told(rt: HostRuntime) -> Result<(), Fail> {
-    says(&rt, rt.alloc(), LONG_GAPS, STRANGERS_AND_UNHELD)
-}
-
-const EARLY_MISFIT_AND_MISSING: &[Row<'static>] = &[
-    (
-        ONE_EACH,
-        b"TX 19 1\nWS L0A111 D00001 D00001\nTX 110 2\nWS L0B210 D00001\n",
-        Err((19, 1, Early)),
-    ),
-    (
-        ONE_EACH,
-        b"TX 20 1\nWS L0A111 D00001 D00001\nTX 79 2\nWS L0B210 D00001\n",
-        Err((79, 2, Early)),
-    ),
-    (
-        ONE_EACH,
-        b"TX 20 1\nWS L0A111 D00001\nTX 110 2\nWS L0B210 D00001\n",
-        Err((20, 1, Misfit)),
-    ),
-    (
-        ONE_EACH,
-        b"TX 20 1\nWS L0A111 D00001 D00001\n",
-        Err((110, 2, Missing)),
-    ),
-];
-
-/// One change each: a start that is early, also inside a message; a message that doesn't fit; and one that is missing.
-#[test]
-fn early_misfit_and_missing_messages_are_told(rt: HostRuntime) -> Result<(), Fail> {
-    says(&rt, rt.alloc(), LONG_GAPS, EARLY_MISFIT_AND_MISSING)
-}
-
 /// An early message that doesn't fit.
 const EARLY_AND_MISFIT: &[u8] = b"TX 19 1\nWS L0A111 D00001\n";
-
-const TWO_KINDS: &[Row<'static>] = &[
-    (
-        b"HORIZON 150\nHOLD 2 1\n",
-        EARLY_AND_MISFIT,
-        Err((19, 1, Unheld)),
-    ),
-    (ONE_EACH, EARLY_AND_MISFIT, Err((19, 1, Early))),
-];
-
-/// Two kinds at once: an early message that wasn't held, and one that doesn't fit.
-#[test]
-fn the_first_of_two_kinds_is_told(rt: HostRuntime) -> Result<(), Fail> {
-    says(&rt, rt.alloc(), LONG_GAPS, TWO_KINDS)
-}
-
-const LATE_TURN: &[Row<'static>] = &[
-    (
-        TWO_EACH,
-        b"TX 20 1\nWS L0A111 D00001 D00001\nTX 110 2\nWS L0B210*\nTX 1050 1\nWS L0A111 D00001 D00001\nTX 1140 2\nWS L0B210*\n",
-        Ok(0),
-    ),
-    (
-        TWO_EACH,
-        b"TX 20 1\nWS L0A111 D00001 D00001\nTX 110 2\nWS L0B210*\nTX 1051 1\nWS L0A111 D00001 D00001\nTX 1140 2\nWS L0B210*\n",
-        Err((1050, 1, Missing)),
-    ),
-];
-
-/// A turn that is taken in time, and one bit time late.
-#[test]
-fn a_late_turn_is_told(rt: HostRuntime) -> Result<(), Fail> {
-    says(&rt, rt.alloc(), SHORT_GAPS, LATE_TURN)
-}
 
 /// A message of each.
 const ONE_EACH_SENT: &[u8] = b"TX 20 1\nWS L0A111 D00001 D00001\nTX 110 2\nWS L0B210 D00001\n";
 
-const TURN_NEVER_TAKEN: &[Row<'static>] = &[
-    (
-        b"HORIZON 1099511627776\nHOLD 1 1\nHOLD 2 1\n",
-        ONE_EACH_SENT,
-        Ok(0),
-    ),
-    (
-        b"HORIZON 1099511627776\nHOLD 1 2\nHOLD 2 1\n",
-        ONE_EACH_SENT,
-        Err((1170, 1, Missing)),
-    ),
-    (b"HORIZON 1170\nHOLD 1 2\nHOLD 2 1\n", ONE_EACH_SENT, Ok(0)),
-];
-
-/// A turn that is never taken, up to the greatest horizon and to its own moment.
-#[test]
-fn a_turn_never_taken_is_told(rt: HostRuntime) -> Result<(), Fail> {
-    says(&rt, rt.alloc(), LONG_GAPS, TURN_NEVER_TAKEN)
+/// A table, the HORIZON and HOLD lines of a trace, what was sent, and what the audit says.
+#[derive(Drop)]
+struct Row {
+    table: &'static [u8],
+    head: &'static [u8],
+    sent: &'static [u8],
+    said: Said,
 }
 
-const COLLIDING_OR_ALONE: &[Row<'static>] = &[
-    (
-        TWO_EACH,
-        b"TX 0 1\nWS L0A111 D00001 D00001\nTX 0 2\nWS L0B210*\nTX 2000 1\nWS L0A111 D00001 D00001\nTX 2000 2\nWS L0B210*\n",
-        Ok(4),
-    ),
-    (
-        TWO_EACH,
-        b"TX 0 1\nWS L0A111 D00001 D00001\n",
-        Err((0, 2, Missing)),
-    ),
+const ROWS: [Row; 17] = [
+    // A lawful trace, and one change each: a stranger sends, or a sender that held no message.
+    Row {
+        table: LONG_GAPS,
+        head: ONE_EACH,
+        sent: b"TX 20 1\nWS L0A111 D00001 D00001\nTX 110 2\nWS L0B210 D00001\n",
+        said: Ok(0),
+    },
+    Row {
+        table: LONG_GAPS,
+        head: ONE_EACH,
+        sent: b"TX 10 4\nWS L0A111 D00001 D00001\nTX 20 1\nWS L0A111 D00001 D00001\nTX 110 2\nWS L0B210 D00001\n",
+        said: Err((10, 4, Stranger)),
+    },
+    Row {
+        table: LONG_GAPS,
+        head: b"HORIZON 150\nHOLD 1 0\nHOLD 2 1\n",
+        sent: b"TX 20 1\nWS L0A111 D00001 D00001\nTX 110 2\nWS L0B210 D00001\n",
+        said: Err((20, 1, Unheld)),
+    },
+    Row {
+        table: LONG_GAPS,
+        head: b"HORIZON 150\nHOLD 1 1\n",
+        sent: b"TX 20 1\nWS L0A111 D00001 D00001\nTX 110 2\nWS L0B210 D00001\n",
+        said: Err((110, 2, Unheld)),
+    },
+    // A start that is early, also inside a message; a message that doesn't fit; and one that is missing.
+    Row {
+        table: LONG_GAPS,
+        head: ONE_EACH,
+        sent: b"TX 19 1\nWS L0A111 D00001 D00001\nTX 110 2\nWS L0B210 D00001\n",
+        said: Err((19, 1, Early)),
+    },
+    Row {
+        table: LONG_GAPS,
+        head: ONE_EACH,
+        sent: b"TX 20 1\nWS L0A111 D00001 D00001\nTX 79 2\nWS L0B210 D00001\n",
+        said: Err((79, 2, Early)),
+    },
+    Row {
+        table: LONG_GAPS,
+        head: ONE_EACH,
+        sent: b"TX 20 1\nWS L0A111 D00001\nTX 110 2\nWS L0B210 D00001\n",
+        said: Err((20, 1, Misfit)),
+    },
+    Row {
+        table: LONG_GAPS,
+        head: ONE_EACH,
+        sent: b"TX 20 1\nWS L0A111 D00001 D00001\n",
+        said: Err((110, 2, Missing)),
+    },
+    // Two kinds at once: an early message that wasn't held, and one that doesn't fit.
+    Row {
+        table: LONG_GAPS,
+        head: b"HORIZON 150\nHOLD 2 1\n",
+        sent: EARLY_AND_MISFIT,
+        said: Err((19, 1, Unheld)),
+    },
+    Row {
+        table: LONG_GAPS,
+        head: ONE_EACH,
+        sent: EARLY_AND_MISFIT,
+        said: Err((19, 1, Early)),
+    },
+    // A turn that is taken in time, and one bit time late.
+    Row {
+        table: SHORT_GAPS,
+        head: TWO_EACH,
+        sent: b"TX 20 1
+WS L0A111 D00001 D00001
+TX 110 2
+WS L0B210*
+TX 1050 1
+WS L0A111 D00001 D00001
+TX 1140 2
+WS L0B210*
+",
+        said: Ok(0),
+    },
+    Row {
+        table: SHORT_GAPS,
+        head: TWO_EACH,
+        sent: b"TX 20 1
+WS L0A111 D00001 D00001
+TX 110 2
+WS L0B210*
+TX 1051 1
+WS L0A111 D00001 D00001
+TX 1140 2
+WS L0B210*
+",
+        said: Err((1050, 1, Missing)),
+    },
+    // A turn that is never taken, up to the greatest horizon and to its own moment.
+    Row {
+        table: LONG_GAPS,
+        head: b"HORIZON 1099511627776\nHOLD 1 1\nHOLD 2 1\n",
+        sent: ONE_EACH_SENT,
+        said: Ok(0),
+    },
+    Row {
+        table: LONG_GAPS,
+        head: b"HORIZON 1099511627776\nHOLD 1 2\nHOLD 2 1\n",
+        sent: ONE_EACH_SENT,
+        said: Err((1170, 1, Missing)),
+    },
+    Row {
+        table: LONG_GAPS,
+        head: b"HORIZON 1170\nHOLD 1 2\nHOLD 2 1\n",
+        sent: ONE_EACH_SENT,
+        said: Ok(0),
+    },
+    // Two senders that collide as their timers say, and one of them alone.
+    Row {
+        table: SAME_OFFSET,
+        head: TWO_EACH,
+        sent: b"TX 0 1
+WS L0A111 D00001 D00001
+TX 0 2
+WS L0B210*
+TX 2000 1
+WS L0A111 D00001 D00001
+TX 2000 2
+WS L0B210*
+",
+        said: Ok(4),
+    },
+    Row {
+        table: SAME_OFFSET,
+        head: TWO_EACH,
+        sent: b"TX 0 1\nWS L0A111 D00001 D00001\n",
+        said: Err((0, 2, Missing)),
+    },
 ];
 
-/// Two senders that collide as their timers say, and one of them alone.
 #[test]
-fn senders_that_should_collide_are_told(rt: HostRuntime) -> Result<(), Fail> {
-    says(&rt, rt.alloc(), SAME_OFFSET, COLLIDING_OR_ALONE)
+fn the_first_breach_is_told(rt: HostRuntime) -> Result<(), Fail> {
+    for (k, row) in ROWS.iter().enumerate() {
+        assert!(rt;
+            said(rt.alloc(), row.table, row.head, row.sent)? == row.said,
+            "row {k}"
+        );
+    }
+    Ok(())
 }

@@ -22,19 +22,19 @@ fn sent_with(
 /// The HORIZON and HOLD lines of a trace, an entry of its list, what stands for it, and what the audit says.
 type Change<'a> = (&'a [u8], usize, &'a [u8], Said);
 
-/// The audit of a table says this of each change of a list.
-fn says_of_changes(
-    rt: &impl Abort,
-    alloc: Global,
-    table: &[u8],
-    list: [&[u8]; 4],
-    changes: &[Change<'_>],
-) -> Result<(), Fail> {
-    for (head, at, others, wanted) in changes {
-        let sent = sent_with(alloc, list, *at, others)?;
-        assert_eq!(rt; said(alloc, table, head, &sent)?, *wanted);
-    }
-    Ok(())
+/// A table, a list of what is sent, and changes of it.
+#[derive(Drop)]
+struct Row {
+    table: &'static [u8],
+    list: [&'static [u8]; 4],
+    changes: &'static [Change<'static>],
+}
+
+/// Whether the audit of a table says this of a change of a list.
+fn says(alloc: Global, row: &Row, change: &Change<'_>) -> Result<bool, Fail> {
+    let (head, at, others, wanted) = change;
+    let sent = sent_with(alloc, row.list, *at, others)?;
+    Ok(said(alloc, row.table, head, &sent)? == *wanted)
 }
 
 /// What is observed of two senders that take turns.
@@ -63,12 +63,6 @@ const MISSED_OR_MOVED: &[Change<'static>] = &[
     (TURNS_HELD, 3, b"TX 1141 2\nb", Err((1140, 2, Missing))),
 ];
 
-/// What is observed of two senders that take turns, and each change of an entry: left out, earlier or later.
-#[test]
-fn each_missed_or_moved_turn_is_told(rt: HostRuntime) -> Result<(), Fail> {
-    says_of_changes(&rt, rt.alloc(), SHORT_GAPS, TURNS, MISSED_OR_MOVED)
-}
-
 const TAKEN_TWICE: &[Change<'static>] = &[
     (TURNS_HELD, 0, b"TX 20 1\naTX 20 2\na", Err((20, 2, Early))),
     (
@@ -90,12 +84,6 @@ const TAKEN_TWICE: &[Change<'static>] = &[
         Err((1140, 1, Unheld)),
     ),
 ];
-
-/// What is observed of two senders that take turns, and each entry twice, once of another terminal.
-#[test]
-fn each_turn_taken_twice_is_told(rt: HostRuntime) -> Result<(), Fail> {
-    says_of_changes(&rt, rt.alloc(), SHORT_GAPS, TURNS, TAKEN_TWICE)
-}
 
 const MORE_OR_LESS_HELD: &[Change<'static>] = &[
     (
@@ -123,12 +111,6 @@ const MORE_OR_LESS_HELD: &[Change<'static>] = &[
         Err((2140, 2, Missing)),
     ),
 ];
-
-/// What is observed of two senders that take turns, and a message more or less that was held.
-#[test]
-fn a_turn_more_or_less_held_is_told(rt: HostRuntime) -> Result<(), Fail> {
-    says_of_changes(&rt, rt.alloc(), SHORT_GAPS, TURNS, MORE_OR_LESS_HELD)
-}
 
 /// What is observed of two senders that collide.
 const COLLISIONS: [&[u8]; 4] = [b"TX 0 1\na", b"TX 0 2\nb", b"TX 2000 1\na", b"TX 2000 2\nb"];
@@ -170,12 +152,6 @@ const CHANGED_COLLISIONS: &[Change<'static>] = &[
     ),
 ];
 
-/// What is observed of two senders that collide, and each change of an entry that ascends: left out, earlier, later or twice.
-#[test]
-fn each_change_of_a_collision_is_told(rt: HostRuntime) -> Result<(), Fail> {
-    says_of_changes(&rt, rt.alloc(), SAME_OFFSET, COLLISIONS, CHANGED_COLLISIONS)
-}
-
 const COLLISIONS_MORE_OR_LESS_HELD: &[Change<'static>] = &[
     (
         b"HORIZON 4001\nHOLD 1 1\nHOLD 2 2\n",
@@ -203,14 +179,51 @@ const COLLISIONS_MORE_OR_LESS_HELD: &[Change<'static>] = &[
     ),
 ];
 
-/// What is observed of two senders that collide, and a message more or less that was held.
+const ROWS: [Row; 5] = [
+    // What is observed of two senders that take turns, and each change of an entry: left out, earlier or later.
+    Row {
+        table: SHORT_GAPS,
+        list: TURNS,
+        changes: MISSED_OR_MOVED,
+    },
+    // What is observed of two senders that take turns, and each entry twice, once of another terminal.
+    Row {
+        table: SHORT_GAPS,
+        list: TURNS,
+        changes: TAKEN_TWICE,
+    },
+    // What is observed of two senders that take turns, and a message more or less that was held.
+    Row {
+        table: SHORT_GAPS,
+        list: TURNS,
+        changes: MORE_OR_LESS_HELD,
+    },
+    // What is observed of two senders that collide, and each change of an entry that ascends: left out, earlier, later or twice.
+    Row {
+        table: SAME_OFFSET,
+        list: COLLISIONS,
+        changes: CHANGED_COLLISIONS,
+    },
+    // What is observed of two senders that collide, and a message more or less that was held.
+    Row {
+        table: SAME_OFFSET,
+        list: COLLISIONS,
+        changes: COLLISIONS_MORE_OR_LESS_HELD,
+    },
+];
+
+/// The audit of a table says of each change of a list what it should.
+fn says_of_changes(rt: &impl Abort, alloc: Global, row: &Row) -> Result<(), Fail> {
+    for (k, change) in row.changes.iter().enumerate() {
+        assert!(rt; says(alloc, row, change)?, "change {k}");
+    }
+    Ok(())
+}
+
 #[test]
-fn a_collision_more_or_less_held_is_told(rt: HostRuntime) -> Result<(), Fail> {
-    says_of_changes(
-        &rt,
-        rt.alloc(),
-        SAME_OFFSET,
-        COLLISIONS,
-        COLLISIONS_MORE_OR_LESS_HELD,
-    )
+fn each_change_is_told(rt: HostRuntime) -> Result<(), Fail> {
+    for row in &ROWS {
+        says_of_changes(&rt, rt.alloc(), row)?;
+    }
+    Ok(())
 }

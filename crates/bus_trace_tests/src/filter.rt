@@ -1,11 +1,11 @@
 //! What terminals receive, by example.
+use crate::texts::trace_between;
 use bus_filter::{Heard, Receiver, count_received, write_received};
 use bus_outer::{MemorySink, WriteFault};
-use bus_strings::{Message, Transmission, Wordstring, is_by_moment};
+use bus_strings::is_by_moment;
 use bus_table::{TakeLine, read_table};
 use bus_words::{Ext, Label, data_word, label_word};
 use std::alloc::Global;
-use std::process::Abort;
 use std::test::Fail;
 
 const TWO_SENDERS_AND_A_LISTENER: &[u8] = b"TABLE 1
@@ -55,167 +55,87 @@ LISTENER 4
 TAKE 0A1 * 4 5
 ";
 
-/// A label and an extension of these numbers.
-fn pair(label: u16, ext: u8) -> Result<(Label, Ext), Fail> {
-    match (Label::new(label), Ext::new(ext)) {
-        (Some(label), Some(ext)) => Ok((label, ext)),
-        _ => Err(Fail::new("no label")),
-    }
+/// The second begins with the last bit time of the first.
+const GARBLED: &[u8] = b"TX 20 1
+WS L0A111 D00001 D00010
+TX 79 2
+WS L0B210
+";
+
+/// A table, what is sent, how many lines are received, and the text of that.
+#[derive(Drop)]
+struct Row {
+    table: &'static [u8],
+    sent: &'static [u8],
+    lines: u128,
+    received: &'static [u8],
 }
 
-/// The label, the extension and the data words of a wordstring.
-type Part<'a> = (u16, u8, &'a [u16]);
-
-/// A wordstring of these.
-fn wordstring(alloc: Global, part: &Part<'_>) -> Result<Wordstring, Fail> {
-    let (label, ext) = pair(part.0, part.1)?;
-    match Wordstring::new(label, ext, Vec::from_slice(alloc, part.2)?)? {
-        Some(string) => Ok(string),
-        None => Err(Fail::new("no wordstring")),
-    }
-}
-
-/// A message of one wordstring or two.
-fn message(alloc: Global, parts: &[Part<'_>]) -> Result<Message, Fail> {
-    match parts {
-        [only] => Ok(Message::one(alloc, wordstring(alloc, only)?)),
-        [first, second] => {
-            let mut message = Message::one(alloc, wordstring(alloc, first)?);
-            message.push(wordstring(alloc, second)?)?;
-            Ok(message)
-        }
-        _ => Err(Fail::new("no message")),
-    }
-}
-
-/// The moment of a transmission, its terminal and its wordstrings.
-type Sending<'a> = (u64, u8, &'a [Part<'a>]);
-
-/// A list of these, up to moment 2000.
-fn sent(alloc: Global, sendings: &[Sending<'_>]) -> Result<Vec<Transmission>, Fail> {
-    let mut list = Vec::new(alloc);
-    for (moment, terminal, parts) in sendings {
-        if *moment > 2000 || *terminal == 0 || *terminal > 128 {
-            return Err(Fail::new("no transmission"));
-        }
-        list.push(Transmission {
-            moment: *moment,
-            terminal: *terminal,
-            message: message(alloc, parts)?,
-        })?;
-    }
-    Ok(list)
-}
-
-/// The terminals of a table receive so many lines of what is sent, and this text.
-fn is_received(
-    rt: &impl Abort,
-    alloc: Global,
-    table: &[u8],
-    sendings: &[Sending<'_>],
-    (lines, want): (u128, &[u8]),
-) -> Result<(), Fail> {
-    let table = read_table(alloc, table)?;
-    let list = sent(alloc, sendings)?;
-    assert!(rt; is_by_moment(&list));
-    assert_eq!(rt; count_received(&table, &list), lines);
-    let mut sink = MemorySink::new(alloc, 1000, 1000, Vec::new(alloc))?;
-    assert_eq!(rt; write_received(&table, &list, &mut sink), Ok(()));
-    assert_eq!(rt; sink.bytes(), want);
-    Ok(())
-}
-
-const ONE_OF_EACH: &[Sending<'static>] = &[
-    (20, 1, &[(0x0A1, 1, &[0, 1])]),
-    (110, 2, &[(0x0B2, 1, &[0xFF])]),
-];
-
-#[test]
-fn words_of_others_are_received(rt: HostRuntime) -> Result<(), Fail> {
-    let want = b"RECEIVED 1
+const ROWS: [Row; 4] = [
+    // Words of others are received.
+    Row {
+        table: TWO_SENDERS_AND_A_LISTENER,
+        sent: b"TX 20 1
+WS L0A111 D00001 D00010
+TX 110 2
+WS L0B210 D00FF1
+",
+        lines: 2,
+        received: b"RECEIVED 1
 TERMINAL 1
 TERMINAL 2
 RX 20 0A1 1 0001
 TERMINAL 3
 RX 110 0B2 1 00FF
 END
-";
-    is_received(
-        &rt,
-        rt.alloc(),
-        TWO_SENDERS_AND_A_LISTENER,
-        ONE_OF_EACH,
-        (2, want),
-    )
-}
-
-#[test]
-fn a_selection_ends_with_its_wordstring(rt: HostRuntime) -> Result<(), Fail> {
-    let words = [
-        0, 1, 2, 3, 4, 5, 6, 7, 8, 9, 10, 11, 12, 13, 14, 15, 16, 17, 18, 19, 20, 21, 22, 23, 24,
-        25, 26, 27, 28, 29,
-    ];
-    let sendings: &[Sending<'_>] = &[
-        (20, 1, &[(0x0A1, 1, &[0, 0])]),
-        (110, 2, &[(0x0B2, 1, &words)]),
-    ];
-    let want = b"RECEIVED 1
+",
+    },
+    // A selection ends with its wordstring.
+    Row {
+        table: A_TERMINAL_THAT_TAKES_ITS_OWN_LABEL,
+        sent: b"TX 20 1
+WS L0A111 D00001 D00001
+TX 110 2
+WS L0B210 D00001 D00010 D00020 D00031 D00040 D00051 D00061 D00070 D00080 D00091 D000A1 D000B0 D000C1 D000D0 \
+D000E0 D000F1 D00100 D00111 D00121 D00130 D00141 D00150 D00160 D00171 D00181 D00190 D001A0 D001B1 D001C0 D001D1
+",
+        lines: 2,
+        received: b"RECEIVED 1
 TERMINAL 1
 TERMINAL 2
 TERMINAL 3
 RX 110 0B2 1 001C 001D
 RX 110 0B2 1
 END
-";
-    is_received(
-        &rt,
-        rt.alloc(),
-        A_TERMINAL_THAT_TAKES_ITS_OWN_LABEL,
-        sendings,
-        (2, want),
-    )
-}
-
-const GARBLED: &[Sending<'static>] = &[
-    (20, 1, &[(0x0A1, 1, &[0, 1])]),
-    (79, 2, &[(0x0B2, 1, &[])]),
-];
-
-#[test]
-fn garbled_words_are_not_received(rt: HostRuntime) -> Result<(), Fail> {
-    let want = b"RECEIVED 1\nTERMINAL 1\nTERMINAL 2\nTERMINAL 3\nEND\n";
-    is_received(
-        &rt,
-        rt.alloc(),
-        TWO_SENDERS_AND_A_LISTENER,
-        GARBLED,
-        (0, want),
-    )
-}
-
-#[test]
-fn a_failed_push_is_a_fault(rt: HostRuntime) -> Result<(), Fail> {
-    let table = read_table(rt.alloc(), TWO_SENDERS_AND_A_LISTENER)?;
-    let list = sent(rt.alloc(), GARBLED)?;
-    assert!(rt; is_by_moment(&list));
-    let failing = vec![in rt.alloc(); 0u64]?;
-    let mut sink = MemorySink::new(rt.alloc(), 1000, 1000, failing)?;
-    let answer = write_received(&table, &list, &mut sink);
-    assert_eq!(rt; (answer, sink.bytes()), (Err(WriteFault), b"".as_slice()));
-    Ok(())
-}
-
-/// A message of two wordstrings whose labels are the least and the greatest; a garbled one of each terminal; and one in the clear.
-#[test]
-fn lines_are_looked_up_by_label(rt: HostRuntime) -> Result<(), Fail> {
-    let words: &[u16] = &[1, 2, 3, 4, 5, 6, 7, 8, 9];
-    let sendings: &[Sending<'_>] = &[
-        (20, 1, &[(0, 0, words), (0xFFF, 15, &[0xABCD, 0xEF, 7])]),
-        (1000, 1, &[(0xFFF, 1, &[1, 2])]),
-        (1010, 2, &[(0x0A1, 1, &[1])]),
-        (2000, 2, &[(0x0A1, 1, words)]),
-    ];
-    let want = b"RECEIVED 1
+",
+    },
+    // Garbled words are not received.
+    Row {
+        table: TWO_SENDERS_AND_A_LISTENER,
+        sent: GARBLED,
+        lines: 0,
+        received: b"RECEIVED 1
+TERMINAL 1
+TERMINAL 2
+TERMINAL 3
+END
+",
+    },
+    // A message of two wordstrings whose labels are the least and the greatest; a garbled one of each terminal; and one in the clear.
+    Row {
+        table: LABELS_AT_BOTH_ENDS,
+        sent: b"TX 20 1
+WS L00001 D00010 D00020 D00031 D00040 D00051 D00061 D00070 D00080 D00091
+WS LFFFF1 DABCD1 D00EF0 D00070
+TX 1000 1
+WS LFFF10 D00010 D00020
+TX 1010 2
+WS L0A111 D00010
+TX 2000 2
+WS L0A111 D00010 D00020 D00031 D00040 D00051 D00061 D00070 D00080 D00091
+",
+        lines: 4,
+        received: b"RECEIVED 1
 TERMINAL 1
 TERMINAL 2
 RX 20 000 0 0001 0002 0003 0004 0005 0006 0007 0008 0009
@@ -225,8 +145,55 @@ TERMINAL 3
 TERMINAL 4
 RX 2000 0A1 1 0005 0006 0007 0008 0009
 END
-";
-    is_received(&rt, rt.alloc(), LABELS_AT_BOTH_ENDS, sendings, (4, want))
+",
+    },
+];
+
+/// How many lines the terminals of a table receive of what is sent, and what is written of that, in a sink whose listed pushes fail.
+fn received(
+    alloc: Global,
+    table: &[u8],
+    sent: &[u8],
+    failing: &[u64],
+) -> Result<(u128, bool, Vec<u8>), Fail> {
+    let table = read_table(alloc, table)?;
+    let trace = trace_between(alloc, b"TRACE 1\nHORIZON 2001\n", sent)?;
+    if !is_by_moment(trace.list()) {
+        return Err(Fail::new("a list by moment"));
+    }
+    let mut sink = MemorySink::new(alloc, 1000, 1000, Vec::from_slice(alloc, failing)?)?;
+    let answer = write_received(&table, trace.list(), &mut sink);
+    let bytes = Vec::from_slice(alloc, sink.bytes())?;
+    Ok((
+        count_received(&table, trace.list()),
+        answer == Err(WriteFault),
+        bytes,
+    ))
+}
+
+#[test]
+fn words_of_others_are_received(rt: HostRuntime) -> Result<(), Fail> {
+    for (k, row) in ROWS.iter().enumerate() {
+        let (lines, failed, bytes) = received(rt.alloc(), row.table, row.sent, &[])?;
+        assert!(rt; lines == row.lines && !failed, "row {k}");
+        assert!(rt; bytes.as_slice() == row.received, "row {k}");
+    }
+    Ok(())
+}
+
+#[test]
+fn a_failed_push_is_a_fault(rt: HostRuntime) -> Result<(), Fail> {
+    let (_, failed, bytes) = received(rt.alloc(), TWO_SENDERS_AND_A_LISTENER, GARBLED, &[0])?;
+    assert!(rt; failed && bytes.is_empty());
+    Ok(())
+}
+
+/// A label and an extension of these numbers.
+fn pair(label: u16, ext: u8) -> Result<(Label, Ext), Fail> {
+    match (Label::new(label), Ext::new(ext)) {
+        (Some(label), Some(ext)) => Ok((label, ext)),
+        _ => Err(Fail::new("no label")),
+    }
 }
 
 #[test]
@@ -252,11 +219,11 @@ fn a_receiver_keeps_its_places(rt: HostRuntime) -> Result<(), Fail> {
         (label_word(label, ext), Heard::Begins { label, ext }),
         (data_word(10), Heard::Skipped),
     ] {
-        assert_eq!(rt; receiver.word(word), want);
+        assert!(rt; receiver.word(word) == want);
     }
     assert!(rt; receiver.matching());
     receiver.end();
     assert!(rt; !receiver.matching());
-    assert_eq!(rt; receiver.word(data_word(11)), Heard::Skipped);
+    assert!(rt; receiver.word(data_word(11)) == Heard::Skipped);
     Ok(())
 }

@@ -1,9 +1,10 @@
 //! Traces of format 2: ends and marks.
-use crate::texts::{Change, LINES, are_refused, is_written_as, trace_of};
+use crate::texts::{Change, is_written_as, trace_of};
 use bus_trace::TraceReason;
 use std::test::Fail;
 
-const WRONG_ENDS_OR_MARKS: &[Change<'static>] = &[
+/// Of the trace of two transmissions.
+pub(crate) const WRONG_ENDS_OR_MARKS: &[Change<'static>] = &[
     (6, b"TE 81 -\n", 70, TraceReason::Mark),
     (6, b"TE 20 -\n", 70, TraceReason::Mark),
     (6, b"TE 99999999999999999999 -\n", 70, TraceReason::Mark),
@@ -19,21 +20,12 @@ const WRONG_ENDS_OR_MARKS: &[Change<'static>] = &[
     // Right marks: what is refused is the second TX line.
     (6, b"TE 80 C\nTX 79 2\n", 86, TraceReason::Keyword),
     (6, b"TE 80 -\nTX 80 2\n", 86, TraceReason::Keyword),
+    // A transmission needs its TE line.
+    (6, b"", 70, TraceReason::Keyword),
 ];
 
-#[test]
-fn a_wrong_end_or_mark_is_refused(rt: HostRuntime) -> Result<(), Fail> {
-    are_refused(&rt, rt.alloc(), &LINES, WRONG_ENDS_OR_MARKS)
-}
-
-#[test]
-fn a_transmission_needs_its_te_line(rt: HostRuntime) -> Result<(), Fail> {
-    let change = (6, b"".as_slice(), 70, TraceReason::Keyword);
-    are_refused(&rt, rt.alloc(), &LINES, &[change])
-}
-
 /// Three transmissions of which the first reaches over both others, and the last two don't meet.
-const REACHED: [(&[u8], usize); 12] = [
+pub(crate) const REACHED: [(&[u8], usize); 12] = [
     (b"TRACE 2\n", 0),
     (b"HORIZON 200\n", 8),
     (b"TX 0 1\n", 20),
@@ -52,28 +44,21 @@ const REACHED: [(&[u8], usize); 12] = [
 fn a_reached_transmission_is_marked(rt: HostRuntime) -> Result<(), Fail> {
     let trace = trace_of(rt.alloc(), &REACHED)?;
     assert!(rt; is_written_as(rt.alloc(), &trace, &REACHED)?);
-    assert_eq!(rt; trace.list().len(), 3);
-    assert_eq!(rt; (trace.end(0), trace.end(1)), (80, 40));
-    assert_eq!(rt;
-        [trace.collided(0), trace.collided(1), trace.collided(2)],
-        [true; 3]
-    );
+    assert!(rt; trace.list().len() == 3);
+    assert!(rt; (trace.end(0), trace.end(1)) == (80, 40));
+    assert!(rt; [trace.collided(0), trace.collided(1), trace.collided(2)] == [true; 3]);
     Ok(())
 }
 
-const CLEAR_MARKS: &[Change<'static>] = &[
+/// Where another reaches a transmission a clear mark is wrong.
+pub(crate) const CLEAR_MARKS: &[Change<'static>] = &[
     (4, b"TE 80 -\n", 66, TraceReason::Mark),
     (7, b"TE 40 -\n", 84, TraceReason::Mark),
     (10, b"TE 80 -\n", 110, TraceReason::Mark),
 ];
 
-#[test]
-fn a_clear_mark_is_refused_where_another_reaches(rt: HostRuntime) -> Result<(), Fail> {
-    are_refused(&rt, rt.alloc(), &REACHED, CLEAR_MARKS)
-}
-
 /// A transmission of the last terminal at the last moment: none can come behind it.
-const FINAL: [(&[u8], usize); 6] = [
+pub(crate) const FINAL: [(&[u8], usize); 6] = [
     (b"TRACE 2\n", 0),
     (b"HORIZON 10\n", 8),
     (b"TX 9 128\n", 19),
@@ -82,10 +67,11 @@ const FINAL: [(&[u8], usize); 6] = [
     (b"END\n", 46),
 ];
 
+/// A mark that can never be right is refused at once.
+pub(crate) const LAST_MARK: &[Change<'static>] = &[(4, b"TE 29 C\n", 38, TraceReason::Mark)];
+
 #[test]
-fn a_mark_that_can_never_be_right_is_refused_at_once(rt: HostRuntime) -> Result<(), Fail> {
-    let change = (4, b"TE 29 C\n".as_slice(), 38, TraceReason::Mark);
-    are_refused(&rt, rt.alloc(), &FINAL, &[change])?;
+fn the_last_moment_has_a_trace(rt: HostRuntime) -> Result<(), Fail> {
     trace_of(rt.alloc(), &FINAL)?;
     Ok(())
 }

@@ -2,6 +2,7 @@
 ghost use Rattle.std.specs.Prelude.{◌≤◌, ◌<◌};
 ghost use Rattle.bus_strings.specs.Limits.{horizon_limit, most_terminal};
 
+use crate::mark::{CLEAR_MARKS, FINAL, LAST_MARK, REACHED, WRONG_ENDS_OR_MARKS};
 use bus_outer::{MemorySink, MemorySource, read_whole};
 use bus_strings::{Message, Transmission, Wordstring};
 use bus_trace::{Hold, Trace, TraceError, TraceReason, read_trace, write_trace};
@@ -60,6 +61,17 @@ pub(crate) fn trace_of(alloc: Global, lines: &[(&[u8], usize)]) -> Result<Trace,
     }
 }
 
+/// The trace that has these lines before what is sent, and its end behind it.
+pub(crate) fn trace_between(alloc: Global, head: &[u8], sent: &[u8]) -> Result<Trace, Fail> {
+    let mut text = Vec::from_slice(alloc, head)?;
+    text.extend_from_slice(sent)?;
+    text.extend_from_slice(b"END\n")?;
+    match read(alloc, &text)? {
+        Ok(trace) => Ok(trace),
+        Err(_) => Err(Fail::new("the trace is refused")),
+    }
+}
+
 /// Whether a trace is written as these lines.
 pub(crate) fn is_written_as(
     alloc: Global,
@@ -85,24 +97,37 @@ pub(crate) fn text_before(
     Ok(text)
 }
 
+/// How many bytes a source still has.
+fn left(alloc: Global, source: &mut MemorySource) -> Result<Option<usize>, Fail> {
+    Ok(match &read_whole(alloc, source, 3000) {
+        Ok(rest) => Some(rest.len()),
+        Err(_) => None,
+    })
+}
+
+/// Behind the trace eleven other bytes stand, which are left.
 #[test]
-fn a_trace_is_read_up_to_its_end_and_written_again(rt: HostRuntime) -> Result<(), Fail> {
+fn a_trace_is_read_up_to_its_end(rt: HostRuntime) -> Result<(), Fail> {
     let bytes = text_before(rt.alloc(), &LINES, b"RECEIVED 1\n")?;
     let mut source = MemorySource::new(bytes, 7, Vec::new(rt.alloc()));
-    let trace = read_trace(rt.alloc(), &mut source).expect(&rt, "a trace");
+    assert!(rt; read_trace(rt.alloc(), &mut source).is_ok());
+    let rest = read_whole(rt.alloc(), &mut source, 100);
+    assert!(rt; matches!(&rest, Ok(rest) if rest.as_slice() == b"RECEIVED 1\n".as_slice()));
+    Ok(())
+}
+
+/// In either format it is written again, in format 2.
+#[test]
+fn a_trace_is_written_in_format_2(rt: HostRuntime) -> Result<(), Fail> {
+    let trace = trace_of(rt.alloc(), &LINES)?;
     assert!(rt; is_written_as(rt.alloc(), &trace, &LINES)?);
-    let rest = read_whole(rt.alloc(), &mut source, 100).expect(&rt, "the rest");
-    assert_eq!(rt; rest.as_slice(), b"RECEIVED 1\n".as_slice());
     Ok(())
 }
 
 #[test]
 fn a_trace_of_format_1_is_written_in_format_2(rt: HostRuntime) -> Result<(), Fail> {
     let trace = trace_of(rt.alloc(), &OLD_LINES)?;
-    assert_eq!(rt;
-        (trace.horizon(), trace.holds().len(), trace.list().len()),
-        (150, 2, 2)
-    );
+    assert!(rt; (trace.horizon(), trace.holds().len(), trace.list().len()) == (150, 2, 2));
     assert!(rt; is_written_as(rt.alloc(), &trace, &LINES)?);
     Ok(())
 }
@@ -160,6 +185,16 @@ fn refusal(
 /// The number of a line, what stands for it, and the byte of the line that is refused for that, and why.
 pub(crate) type Change<'a> = (usize, &'a [u8], u64, TraceReason);
 
+/// Whether a text with one of its lines changed is refused so.
+fn is_refused(alloc: Global, lines: &[(&[u8], usize)], change: &Change<'_>) -> Result<bool, Fail> {
+    let (number, line, byte, reason) = change;
+    let want = TraceError::Text {
+        byte: *byte,
+        reason: *reason,
+    };
+    Ok(refusal(alloc, lines, *number, line)? == Some(want))
+}
+
 /// A text with one of these changes is refused so.
 pub(crate) fn are_refused(
     rt: &impl Abort,
@@ -167,13 +202,8 @@ pub(crate) fn are_refused(
     lines: &[(&[u8], usize)],
     changes: &[Change<'_>],
 ) -> Result<(), Fail> {
-    for (number, line, byte, reason) in changes {
-        let (byte, reason) = (*byte, *reason);
-        assert_eq!(rt;
-            refusal(alloc, lines, *number, line)?,
-            Some(TraceError::Text { byte, reason }),
-            "line {number}"
-        );
+    for change in changes {
+        assert!(rt; is_refused(alloc, lines, change)?, "byte {}", change.2);
     }
     Ok(())
 }
@@ -191,9 +221,20 @@ const CHANGED_LINES: &[Change<'static>] = &[
     (6, b"TE 80 -\n", 70, TraceReason::Keyword),
 ];
 
+/// Lines, and changes of them.
+const CHANGES: [(&[(&[u8], usize)], &[Change<'static>]); 4] = [
+    (&OLD_LINES, CHANGED_LINES),
+    (&LINES, WRONG_ENDS_OR_MARKS),
+    (&REACHED, CLEAR_MARKS),
+    (&FINAL, LAST_MARK),
+];
+
 #[test]
 fn a_changed_line_is_refused_where_it_begins(rt: HostRuntime) -> Result<(), Fail> {
-    are_refused(&rt, rt.alloc(), &OLD_LINES, CHANGED_LINES)
+    for (lines, changes) in &CHANGES {
+        are_refused(&rt, rt.alloc(), lines, changes)?;
+    }
+    Ok(())
 }
 
 #[test]
@@ -204,10 +245,9 @@ fn a_long_line_is_refused_at_its_limit(rt: HostRuntime) -> Result<(), Fail> {
         byte: 8,
         reason: TraceReason::Long,
     };
-    assert_eq!(rt; read_trace(rt.alloc(), &mut source).err(), Some(want));
+    assert!(rt; read_trace(rt.alloc(), &mut source).err() == Some(want));
     // 1,802 bytes of the line were taken.
-    let rest = read_whole(rt.alloc(), &mut source, 3000).expect(&rt, "the rest");
-    assert_eq!(rt; rest.len(), 1198);
+    assert!(rt; left(rt.alloc(), &mut source)? == Some(1198));
     Ok(())
 }
 
@@ -215,10 +255,7 @@ fn a_long_line_is_refused_at_its_limit(rt: HostRuntime) -> Result<(), Fail> {
 fn a_failed_pull_in_mid_stream_is_a_fault(rt: HostRuntime) -> Result<(), Fail> {
     let text = text_of(rt.alloc(), &LINES)?;
     let mut source = MemorySource::new(text, 7, vec![in rt.alloc(); 10u64]?);
-    assert_eq!(rt;
-        read_trace(rt.alloc(), &mut source).err(),
-        Some(TraceError::ReadFault)
-    );
+    assert!(rt; read_trace(rt.alloc(), &mut source).err() == Some(TraceError::ReadFault));
     Ok(())
 }
 
@@ -256,16 +293,17 @@ fn fits(alloc: Global, horizon: u64, second: u64) -> Result<bool, Fail>
     Ok(Trace::new(horizon, holds, list).is_some())
 }
 
+/// A horizon, the moment of the second transmission, and whether there is such a trace.
+const ASCENDING: [(u64, u64, bool); 3] = [(150, 110, true), (110, 110, false), (150, 20, false)];
+
 #[test]
 fn a_trace_is_made_where_it_ascends(rt: HostRuntime) -> Result<(), Fail> {
-    let alloc = rt.alloc();
-    assert_eq!(rt;
-        [
-            fits(alloc, 150, 110)?,
-            fits(alloc, 110, 110)?,
-            fits(alloc, 150, 20)?,
-        ],
-        [true, false, false]
-    );
+    for (horizon, second, made) in ASCENDING {
+        assert!(rt; second < 1000);
+        assert!(rt;
+            fits(rt.alloc(), horizon, second)? == made,
+            "{horizon} {second}"
+        );
+    }
     Ok(())
 }
