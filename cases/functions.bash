@@ -179,3 +179,8 @@ launch_anew() {
   rm -rf tree/out
   NOTHING_KEPT=1 launch "$@"
 }
+# Each command of a transcript, run where copies of the examples are, and all that it writes.
+transcript() {
+  rm -rf .told && mkdir .told && cp ./*.table ./*.messages ./*.cable ./*.trace .told
+  (cd .told && grep '^\$ ' "../$1" | while read -r _ command; do printf '$ %s\n' "$command" && eval "$command"; done)
+}

@@ -1,5 +1,5 @@
-//! Tests of bus_outer, bus_text, bus_words, bus_strings, bus_timers and bus_load by their public calls: in a crate of their own, so that
-//! each of these is proved once and not a second time with its tests.
+//! Tests of bus_outer, bus_text, bus_words, bus_strings, bus_say, bus_timers and bus_load by their public calls: in a crate of their own,
+//! so that each of these is proved once and not a second time with its tests.
 #![tactic(auto)]
 
 #[cfg(test)]
@@ -10,6 +10,8 @@ mod files;
 mod load;
 #[cfg(test)]
 mod messages_text;
+#[cfg(test)]
+mod sentences;
 #[cfg(test)]
 mod sinks;
 #[cfg(test)]

@@ -6,13 +6,14 @@
 //!   bears; that the item that is named is the first that does not fit, and why.
 //!
 //! The definitions are in `specs/`: `Kinds` (which text it is), `Misfits` (why an item doesn't fit its sender), `Reaches` (how far a cable
-//! reaches), `Diagnoses` (what is found) and `Sentences` with `Lines` (what is said of it).
+//! reaches), `Diagnoses` (what is found) and `Sentences` with `Lines` (what is said of it, by the texts of `src/wordings.rt` and
+//! `src/faults.rt`).
 #![tactic(auto)]
 
 mod cables;
-mod counts;
 mod diagnosing;
 mod diagnosis;
+mod faults;
 mod kind;
 pub mod laws;
 mod lines;
@@ -20,6 +21,7 @@ mod misfit;
 mod reach;
 mod sentences;
 mod unfits;
+mod wordings;
 
 pub use diagnosing::diagnose;
 pub use diagnosis::Diagnosis;

@@ -1,5 +1,4 @@
 -- What the contracts of this crate cite.
-pub mod Times
 pub mod Figures
 pub mod Columns
 pub mod Senders

@@ -1,9 +1,9 @@
 -- What is said of the senders of an accepted table: first what they have in common, then lines that name the columns and their units, then
 -- a line for each sender in turn order, with its own numbers alone.
 --   most   the verdict's: two starts of a sender are at most so far apart
-use Rattle.std.specs.Prelude.{ℕ, List, ◌++◌, codes}
+use Rattle.std.specs.Prelude.{ℕ, List, [], ◌∷◌, ◌++◌, codes}
 use Rattle.std.specs.List.{flat_map}
-use Rattle.bus_strings.specs.Microseconds.{microseconds_unit}
+use Rattle.bus_say.specs.Sentences.{said}
 use Rattle.bus_table.specs.declared.mode.Mode.{Mode}
 use Rattle.bus_table.specs.declared.mode.Mode.TheVariants.{Aperiodic, Periodic}
 use Rattle.bus_table.specs.Lengths.{shortest, longest}
@@ -12,35 +12,7 @@ use Rattle.bus_table.specs.Turns.{turn_order}
 use Rattle.bus_regime.specs.Gaps.{Gap, gaps}
 use Rattle.bus_explain.specs.Columns.{number_column, time_columns}
 use Rattle.bus_explain.specs.Figures.{gap_bits}
-use Rattle.bus_explain.specs.Times.{time_text}
-
--- What comes before the columns.
-abbrev pub turn_opening : ℕ → List ℕ
-turn_opening most =
-    codes "The senders speak in this order; from one start to its next each waits, without delays, at most " ++ time_text most
-    ++ codes ":\n"
-
--- The same where each starts at its offset.
-abbrev pub offset_opening : ℕ → List ℕ
-offset_opening most =
-    codes "The senders speak in this order; each starts its offset into each cycle, and from one start to its next waits, without delays, "
-    ++ codes "at most " ++ time_text most ++ codes ":\n"
-
--- The units of a time, in columns as wide as its own.
-abbrev pub time_units : List ℕ
-time_units = codes "  bit times      " ++ microseconds_unit
-
--- The names of the columns, and their units, where a sender starts in its turn.
-abbrev pub turn_head : List ℕ
-turn_head =
-    codes "            terminal gap, TG    shortest message     longest message\n"
-    ++ codes "terminal" ++ time_units ++ time_units ++ time_units ++ codes "\n"
-
--- The same where it starts at its offset, behind a gap: from the end of the longest message of the sender before it.
-abbrev pub offset_head : List ℕ
-offset_head =
-    codes "                  offset, AT    least gap before    terminal gap, TG    shortest message     longest message\n"
-    ++ codes "terminal" ++ time_units ++ time_units ++ time_units ++ time_units ++ time_units ++ codes "\n"
+use Rattle.bus_explain.specs.declared.wordings.TheConstants as the
 
 -- The terminal gap of a sender, and its shortest and its longest message.
 abbrev pub last_columns : (tg short long : ℕ) → List ℕ
@@ -58,5 +30,5 @@ offset_row gap =
 
 -- All that is said of the senders of a table of this mode.
 abbrev pub senders_text : Mode → Table → ℕ → List ℕ
-senders_text Aperiodic table most = turn_opening most ++ turn_head ++ flat_map turn_row (turn_order table)
-senders_text Periodic table most = offset_opening most ++ offset_head ++ flat_map offset_row (gaps table)
+senders_text Aperiodic table most = said the.TURNS.now (most ∷ []) ++ flat_map turn_row (turn_order table)
+senders_text Periodic table most = said the.OFFSETS.now (most ∷ []) ++ flat_map offset_row (gaps table)

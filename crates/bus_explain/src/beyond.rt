@@ -2,11 +2,12 @@
 ghost use Rattle.std.specs.Prelude.{◌≡◌};
 ghost use Rattle.bus_outer.specs.Sinks.{WritesText};
 ghost use Rattle.bus_outer.specs.Texts.{Adds};
-ghost use Rattle.bus_explain.specs.Beyond.{beyond_text, drifting_in, most_line, offsets_line};
+ghost use Rattle.bus_explain.specs.Beyond.{beyond_text, drifting_in, offsets_line};
 
-use crate::times::put_time;
+use crate::wordings::MOST_DELAY;
 use bus_margins_periodic::write_drifting;
 use bus_outer::{Sink, TextBuffer, WriteFault};
+use bus_say::say;
 use bus_table::{Mode, Table};
 
 /// Writes what is said of an accepted table of this mode where clocks are off.
@@ -20,27 +21,12 @@ fn write_drift<K: Sink>(mode: Mode, table: &Table, out: &mut K) -> Result<(), Wr
     }
 }
 
-/// Puts this greatest delay that any offsets bear.
-fn put_most<K: Sink>(text: &mut TextBuffer, sink: &mut K, most: u32)
-    ensures { Adds K.held K.faults sink.old sink.new text.old text.new (most_line most) }
-{
-    text.put(
-        sink,
-        b"The greatest delay that any offsets bear at this interval is ",
-    );
-    put_time(text, sink, most as u128);
-    text.put(
-        sink,
-        b": the word best behind plan and the file chooses such offsets.\n",
-    );
-}
-
-/// Puts it where it is known.
+/// Puts the greatest delay that any offsets bear, where it is known.
 fn put_offsets<K: Sink>(text: &mut TextBuffer, sink: &mut K, most: Option<u32>)
     ensures { Adds K.held K.faults sink.old sink.new text.old text.new (offsets_line most) }
 {
     if let Some(most) = most {
-        put_most(text, sink, most);
+        say(text, sink, MOST_DELAY, &[most as u128]);
     }
 }
 

@@ -4,6 +4,7 @@ ghost use Rattle.bus_outer.specs.Texts.{Adds};
 ghost use Rattle.bus_explain.specs.Accepted.{HasLeast};
 ghost use Rattle.bus_explain.specs.Figures as figures;
 
+use crate::wordings::LITTLE_LOAD;
 use bus_outer::{Sink, TextBuffer};
 use bus_plan::least_interval;
 use bus_regime::TurnGap;
@@ -36,7 +37,7 @@ pub fn put_load<K: Sink>(text: &mut TextBuffer, sink: &mut K, load: u128)
     ensures { Adds K.held K.faults sink.old sink.new text.old text.new (figures.load_words load) }
 {
     if load == 0 {
-        text.put(sink, b"less than 0.1 %");
+        text.put(sink, LITTLE_LOAD);
     } else {
         put_share(text, sink, load);
     }

@@ -5,12 +5,12 @@
 //!   clocks that are off.
 //! - [`write_refused`] tells why the verdict refuses a table, by how many bit times, which advices there are, and the table that one plans.
 //! - [`write_whole`] tells why a table is wrong as a whole, and [`write_unread`] why a text is refused, and what may stand there.
-//! - [`put_time`] puts a time as all these sentences have it.
+//! - [`FIELDS`], [`MISPLACED`], [`RANGE`] and [`SPELLING`] are what is said of a line that is refused, in a text of any kind.
 //! - [`load`] with [`longest_bits`], [`spare`] and [`gap_bits`] are the figures of an accepted table that its verdict doesn't tell, and
 //!   [`put_load`] puts a load.
 //!
 //! Each sentence is a definition with holes for its numbers: `specs/Accepted` with `Starts`, `Beyond`, `Refused`, `Advised`, `Wholes`, `Unread` with
-//! `Forms`, over the times of `specs/Times`, the figures of `specs/Figures` and the columns of `specs/Columns`, in which `specs/Senders`
+//! `Forms`, over the figures of `specs/Figures` and the columns of `specs/Columns`, in which `specs/Senders`
 //! has them. No writer takes memory.
 #![tactic(auto)]
 
@@ -18,20 +18,21 @@ mod accepted;
 mod advised;
 mod beyond;
 mod columns;
+mod faults;
 mod figures;
 mod forms;
 pub mod laws;
 mod refused;
 mod senders;
 mod starts;
-mod times;
 mod unread;
 mod wholes;
+mod wordings;
 
 pub use accepted::{write_accepted, write_summary};
 pub use beyond::write_beyond;
+pub use faults::{FIELDS, MISPLACED, RANGE, SPELLING};
 pub use figures::{gap_bits, load, longest_bits, put_load, spare};
 pub use refused::write_refused;
-pub use times::put_time;
 pub use unread::write_unread;
 pub use wholes::write_whole;

@@ -6,10 +6,11 @@ ghost use Rattle.bus_regime.specs.Verdicts.{is_accepted};
 ghost use Rattle.bus_explain.specs.Refused as refused;
 
 use crate::advised::put_advices;
-use crate::times::put_time;
+use crate::wordings::{MADE, NO_SYNC, SHORT_CYCLE, SMALL_GAP};
 use bus_advice::Advice;
 use bus_outer::{Sink, TextBuffer, WriteFault};
 use bus_regime::TableVerdict;
+use bus_say::say;
 use bus_table::{Table, put_table};
 
 /// By how much a gap is less than what it should be; a negative one is an overlap.
@@ -23,97 +24,42 @@ fn missing(gap: i64, needed: u64) -> u128
     }
 }
 
-/// Puts that the shortest cycle is below the transmit interval.
-fn put_short_cycle<K: Sink>(text: &mut TextBuffer, sink: &mut K, least: u64, missing: u64, ti: u64)
-    ensures { Adds K.held K.faults sink.old sink.new text.old text.new (refused.short_cycle_text least missing ti) }
-{
-    text.put(sink, b"The table is refused: the shortest cycle takes ");
-    put_time(text, sink, least as u128);
-    text.put(sink, b", which is ");
-    put_time(text, sink, missing as u128);
-    text.put(sink, b" less than the transmit interval, TI, of ");
-    put_time(text, sink, ti as u128);
-    text.put(sink, b".\n");
-    text.put(
-        sink,
-        b"In such a cycle a turn comes before its sender's transmit interval is over: that sender can't start in time, ",
-    );
-    text.put(sink, b"and nothing is promised of what follows.\n");
-}
-
-/// Puts that a gap is below its sender's terminal gap.
-fn put_small_gap<K: Sink>(
-    text: &mut TextBuffer,
-    sink: &mut K,
-    terminal: u8,
-    missing: u128,
-    needed: u64,
-)
-    ensures { Adds K.held K.faults sink.old sink.new text.old text.new (refused.small_gap_text terminal missing needed) }
-{
-    text.put(sink, b"The table is refused: the gap before terminal ");
-    text.put_number(sink, terminal);
-    text.put(sink, b" is ");
-    put_time(text, sink, missing);
-    text.put(sink, b" shorter than its terminal gap, TG, of ");
-    put_time(text, sink, needed as u128);
-    text.put(sink, b".\n");
-    text.put(
-        sink,
-        b"The gap lasts from the end of the longest message of the sender before it to its own next start; ",
-    );
-    text.put(sink, b"an overlap counts below zero.\n");
-}
-
-/// Puts that a sender lacks sync.
-fn put_no_sync<K: Sink>(
-    text: &mut TextBuffer,
-    sink: &mut K,
-    terminal: u8,
-    missing: u64,
-    needed: u64,
-)
-    ensures { Adds K.held K.faults sink.old sink.new text.old text.new (refused.no_sync_text terminal missing needed) }
-{
-    text.put(sink, b"The table is refused: the gap before terminal ");
-    text.put_number(sink, terminal);
-    text.put(sink, b" is ");
-    put_time(text, sink, missing as u128);
-    text.put(
-        sink,
-        b" shorter than the synchronization gap, SG, and its terminal gap, TG, together, which are ",
-    );
-    put_time(text, sink, needed as u128);
-    text.put(sink, b".\n");
-    text.put(
-        sink,
-        b"Nor is there a gap of SG before another sender, so this terminal can start late, or miss its turn.\n",
-    );
-}
-
 /// Puts why a verdict refuses; nothing of one that accepts.
 fn put_refusal<K: Sink>(text: &mut TextBuffer, sink: &mut K, verdict: &TableVerdict)
     ensures { Adds K.held K.faults sink.old sink.new text.old text.new (refused.refusal_text verdict.now) }
 {
     match *verdict {
         TableVerdict::Accept { .. } => text.put(sink, b""),
-        TableVerdict::ShortCycle { least, ti } => put_short_cycle(
+        TableVerdict::ShortCycle { least, ti } => say(
             text,
             sink,
-            least,
-            ti.saturating_sub(least),
-            ti,
+            SHORT_CYCLE,
+            &[least as u128, ti.saturating_sub(least) as u128, ti as u128],
         ),
         TableVerdict::SmallGap {
             terminal,
             gap,
             needed,
-        } => put_small_gap(text, sink, terminal, missing(gap, needed), needed),
+        } => say(
+            text,
+            sink,
+            SMALL_GAP,
+            &[terminal as u128, missing(gap, needed), needed as u128],
+        ),
         TableVerdict::NoSync {
             terminal,
             gap,
             needed,
-        } => put_no_sync(text, sink, terminal, needed.saturating_sub(gap), needed),
+        } => say(
+            text,
+            sink,
+            NO_SYNC,
+            &[
+                terminal as u128,
+                needed.saturating_sub(gap) as u128,
+                needed as u128,
+            ],
+        ),
     }
 }
 
@@ -131,7 +77,7 @@ fn put_planned<K: Sink>(text: &mut TextBuffer, sink: &mut K, planned: &Option<Ta
 fn put_made<K: Sink>(text: &mut TextBuffer, sink: &mut K, table: &Table)
     ensures { Adds K.held K.faults sink.old sink.new text.old text.new (refused.made_text table.now) }
 {
-    text.put(sink, b"The table in periodic mode, ready to copy:\n");
+    say(text, sink, MADE, &[]);
     put_table(text, sink, table);
 }
 

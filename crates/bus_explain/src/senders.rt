@@ -8,76 +8,11 @@ ghost use Rattle.bus_explain.specs.Senders as senders;
 
 use crate::columns::{put_number, put_time_columns};
 use crate::figures::gap_bits;
-use crate::times::put_time;
+use crate::wordings::{OFFSETS, TURNS};
 use bus_outer::{Sink, TextBuffer};
 use bus_regime::{TurnGap, gap_at, turn_ends};
-use bus_strings::put_microseconds_unit;
+use bus_say::say;
 use bus_table::{Mode, Sender, Table, longest, shortest, turn_at, turn_places};
-
-/// Puts what comes before the columns of an aperiodic table.
-fn put_turn_opening<K: Sink>(text: &mut TextBuffer, sink: &mut K, most: u64)
-    ensures { Adds K.held K.faults sink.old sink.new text.old text.new (senders.turn_opening most) }
-{
-    text.put(
-        sink,
-        b"The senders speak in this order; from one start to its next each waits, without delays, at most ",
-    );
-    put_time(text, sink, most as u128);
-    text.put(sink, b":\n");
-}
-
-/// Puts what comes before the columns of a periodic table.
-fn put_offset_opening<K: Sink>(text: &mut TextBuffer, sink: &mut K, most: u64)
-    ensures { Adds K.held K.faults sink.old sink.new text.old text.new (senders.offset_opening most) }
-{
-    text.put(
-        sink,
-        b"The senders speak in this order; each starts its offset into each cycle, and from one start to its next waits, without delays, ",
-    );
-    text.put(sink, b"at most ");
-    put_time(text, sink, most as u128);
-    text.put(sink, b":\n");
-}
-
-/// Puts the units of a time.
-fn put_units<K: Sink>(text: &mut TextBuffer, sink: &mut K)
-    ensures { Adds K.held K.faults sink.old sink.new text.old text.new senders.time_units }
-{
-    text.put(sink, b"  bit times      ");
-    put_microseconds_unit(text, sink);
-}
-
-/// Puts the names of the columns of an aperiodic table, and their units.
-fn put_turn_head<K: Sink>(text: &mut TextBuffer, sink: &mut K)
-    ensures { Adds K.held K.faults sink.old sink.new text.old text.new senders.turn_head }
-{
-    text.put(
-        sink,
-        b"            terminal gap, TG    shortest message     longest message\n",
-    );
-    text.put(sink, b"terminal");
-    put_units(text, sink);
-    put_units(text, sink);
-    put_units(text, sink);
-    text.put(sink, b"\n");
-}
-
-/// Puts the names of the columns of a periodic table, and their units.
-fn put_offset_head<K: Sink>(text: &mut TextBuffer, sink: &mut K)
-    ensures { Adds K.held K.faults sink.old sink.new text.old text.new senders.offset_head }
-{
-    text.put(
-        sink,
-        b"                  offset, AT    least gap before    terminal gap, TG    shortest message     longest message\n",
-    );
-    text.put(sink, b"terminal");
-    put_units(text, sink);
-    put_units(text, sink);
-    put_units(text, sink);
-    put_units(text, sink);
-    put_units(text, sink);
-    text.put(sink, b"\n");
-}
 
 /// Puts the terminal gap of a sender, and its shortest and its longest message.
 fn put_last_columns<K: Sink>(text: &mut TextBuffer, sink: &mut K, tg: u32, short: u32, long: u32)
@@ -134,8 +69,7 @@ fn put_offsets<K: Sink>(text: &mut TextBuffer, sink: &mut K, table: &Table)
 fn put_in_turns<K: Sink>(text: &mut TextBuffer, sink: &mut K, table: &Table, most: u64)
     ensures { Adds K.held K.faults sink.old sink.new text.old text.new (senders.senders_text Aperiodic table.now most) }
 {
-    put_turn_opening(text, sink, most);
-    put_turn_head(text, sink);
+    say(text, sink, TURNS, &[most as u128]);
     put_turns(text, sink, table);
 }
 
@@ -143,8 +77,7 @@ fn put_in_turns<K: Sink>(text: &mut TextBuffer, sink: &mut K, table: &Table, mos
 fn put_at_offsets<K: Sink>(text: &mut TextBuffer, sink: &mut K, table: &Table, most: u64)
     ensures { Adds K.held K.faults sink.old sink.new text.old text.new (senders.senders_text Periodic table.now most) }
 {
-    put_offset_opening(text, sink, most);
-    put_offset_head(text, sink);
+    say(text, sink, OFFSETS, &[most as u128]);
     put_offsets(text, sink, table);
 }
 

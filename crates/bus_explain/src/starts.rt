@@ -1,71 +1,37 @@
 //! Whether an accepted table starts itself, what that means, and the advice to start.
-ghost use Rattle.std.specs.Prelude.{◌≡◌, true, false};
+ghost use Rattle.std.specs.Prelude.{◌≡◌, false};
 ghost use Rattle.bus_outer.specs.Texts.{Adds};
 ghost use Rattle.bus_table.specs.declared.mode.Mode.TheVariants.{Aperiodic};
 ghost use Rattle.bus_explain.specs.Starts as starts;
 
 use crate::advised::put_lines;
+use crate::wordings::{MAY_START, NEVER_PARTS, NO_START, STARTS};
 use bus_advice::Advice;
 use bus_outer::{Sink, TextBuffer};
 use bus_regime::{never_parts, starts_itself};
+use bus_say::say;
 use bus_table::{Mode, Table};
 
-/// Puts that a table starts itself.
-fn put_itself<K: Sink>(text: &mut TextBuffer, sink: &mut K)
-    ensures { Adds K.held K.faults sink.old sink.new text.old text.new starts.itself_sentence }
+/// What is said of a table that doesn't start itself, by whether its senders never part once they all start at once.
+fn start_wording(never: bool) -> &'static [u8]
+    ensures { result.now ≡ starts.start_wording never }
 {
-    text.put(
-        sink,
-        b"The table starts itself: whenever its terminals are powered up, with delays up to the tolerance too, its senders come to take turns ",
-    );
-    text.put(sink, b"by themselves, as long as each has messages left.\n");
+    if never { NEVER_PARTS } else { MAY_START }
 }
 
-/// Puts that a table doesn't start itself, by whether its senders never part once they all start at once.
-fn put_sentence<K: Sink>(text: &mut TextBuffer, sink: &mut K, never: bool)
-    ensures { Adds K.held K.faults sink.old sink.new text.old text.new (starts.start_sentence never) }
+/// What stands before the advice to start, where there is none.
+fn advice_wording(none: bool) -> &'static [u8]
+    ensures { result.now ≡ starts.advice_wording none }
 {
-    if never {
-        put_collision(text, sink);
-    } else {
-        text.put(
-            sink,
-            b"The table doesn't start itself: where its terminals are powered up at any moments, nothing is promised of their order.\n",
-        );
-    }
-}
-
-/// Puts that the senders of a table may collide for ever.
-fn put_collision<K: Sink>(text: &mut TextBuffer, sink: &mut K)
-    ensures { Adds K.held K.faults sink.old sink.new text.old text.new (starts.start_sentence true) }
-{
-    text.put(
-        sink,
-        b"The table doesn't start itself: there are moments of power-up with which, without delays, all senders start at once ",
-    );
-    text.put(sink, b"and collide in every cycle, for ever.\n");
-}
-
-/// Puts what stands before the advice to start, where there is none.
-fn put_head<K: Sink>(text: &mut TextBuffer, sink: &mut K, none: bool)
-    ensures { Adds K.held K.faults sink.old sink.new text.old text.new (starts.start_head none) }
-{
-    if none {
-        text.put(
-            sink,
-            b"No transmit interval makes it start itself, if nothing else is changed.\n",
-        );
-    } else {
-        text.put(sink, b"");
-    }
+    if none { NO_START } else { b"" }
 }
 
 /// Puts what is said of a table that doesn't start itself.
 fn put_waiting<K: Sink>(text: &mut TextBuffer, sink: &mut K, never: bool, advices: &[Advice])
     ensures { Adds K.held K.faults sink.old sink.new text.old text.new (starts.start_lines false never advices.now) }
 {
-    put_sentence(text, sink, never);
-    put_head(text, sink, advices.is_empty());
+    say(text, sink, start_wording(never), &[]);
+    say(text, sink, advice_wording(advices.is_empty()), &[]);
     put_lines(text, sink, advices);
 }
 
@@ -80,7 +46,7 @@ fn put_start_lines<K: Sink>(
     ensures { Adds K.held K.faults sink.old sink.new text.old text.new (starts.start_lines itself never advices.now) }
 {
     if itself {
-        put_itself(text, sink);
+        say(text, sink, STARTS, &[]);
     } else {
         put_waiting(text, sink, never, advices);
     }

@@ -1,85 +1,57 @@
 //! A text that is refused: the line, why, and what may stand there.
 ghost use Rattle.std.specs.List.{flat_map};
-ghost use Rattle.std.specs.Prelude.{Some};
+ghost use Rattle.std.specs.Prelude.{◌≡◌};
 ghost use Rattle.bus_outer.specs.Sinks.{WritesText};
 ghost use Rattle.bus_outer.specs.Texts.{Adds};
 ghost use Rattle.bus_table.specs.Forms.{all_keywords};
 ghost use Rattle.bus_table.specs.Stops.{fitting};
-ghost use Rattle.bus_table.specs.declared.keyword.Keyword.TheVariants as keywords;
 ghost use Rattle.bus_explain.specs.Unread as unread;
 
+use crate::faults::{
+    ALL_SENT, ALL_TAKEN, END, ENDED, FIELDS, HAS_TO_BE, LINE, MAY_STAND, MISPLACED, RANGE, SPELLING,
+};
 use crate::forms::put_form;
 use bus_outer::{Sink, TextBuffer, WriteFault};
+use bus_say::say;
 use bus_strings::limits::MOST_STRINGS;
 use bus_table::ranges::MOST_TAKES;
 use bus_table::{Keyword, Stop};
 use bus_text::Reason;
 
-/// Puts that a sender has as many SEND lines as it may have.
-fn put_all_sent<K: Sink>(text: &mut TextBuffer, sink: &mut K)
-    ensures { Adds K.held K.faults sink.old sink.new text.old text.new (unread.barred_text (Some keywords.Send)) }
-{
-    text.put(sink, b"a sender has at most ");
-    text.put_number(sink, MOST_STRINGS);
-    text.put(sink, b" SEND lines, and this one has them.\n");
-}
-
-/// Puts that a terminal has as many TAKE lines as it may have.
-fn put_all_taken<K: Sink>(text: &mut TextBuffer, sink: &mut K)
-    ensures { Adds K.held K.faults sink.old sink.new text.old text.new (unread.barred_text (Some keywords.Take)) }
-{
-    text.put(sink, b"a terminal has at most ");
-    text.put_number(sink, MOST_TAKES);
-    text.put(sink, b" TAKE lines, and this one has them.\n");
-}
-
-/// Puts that a line can't stand there for its beginning.
-fn put_misplaced<K: Sink>(text: &mut TextBuffer, sink: &mut K)
-    ensures { Adds K.held K.faults sink.old sink.new text.old text.new (unread.barred_text None) }
-{
-    text.put(sink, b"a line that begins so can't stand here.\n");
-}
-
-/// Puts why a line of a keyword can't stand there, of which there are as many as there may be.
-fn put_spent<K: Sink>(text: &mut TextBuffer, sink: &mut K, keyword: Keyword)
-    ensures { Adds K.held K.faults sink.old sink.new text.old text.new (unread.barred_text (Some keyword)) }
-{
-    match keyword {
-        Keyword::Send => put_all_sent(text, sink),
-        Keyword::Take => put_all_taken(text, sink),
-        Keyword::Table => put_misplaced(text, sink),
-        Keyword::Mode => put_misplaced(text, sink),
-        Keyword::Ti => put_misplaced(text, sink),
-        Keyword::Sg => put_misplaced(text, sink),
-        Keyword::Sender => put_misplaced(text, sink),
-        Keyword::Listener => put_misplaced(text, sink),
-    }
-}
-
-/// Puts why a line can't stand there: for its number where such a line is spent, or for its beginning.
-fn put_barred<K: Sink>(text: &mut TextBuffer, sink: &mut K, spent: Option<Keyword>)
-    ensures { Adds K.held K.faults sink.old sink.new text.old text.new (unread.barred_text spent) }
+/// What is said of a line that can't stand there, by of which there are as many as there may be.
+fn barred_wording(spent: Option<Keyword>) -> &'static [u8]
+    ensures { result.now ≡ unread.barred_wording spent }
 {
     match spent {
-        Some(keyword) => put_spent(text, sink, keyword),
-        None => put_misplaced(text, sink),
+        Some(Keyword::Send) => ALL_SENT,
+        Some(Keyword::Take) => ALL_TAKEN,
+        _ => MISPLACED,
     }
 }
 
-/// Puts what is said of a reason.
+/// What is said of a reason.
+fn reason_wording(stop: &Stop, reason: Reason) -> &'static [u8]
+    ensures { result.now ≡ unread.reason_wording stop.now reason }
+{
+    match reason {
+        Reason::Ended => ENDED,
+        Reason::Keyword => barred_wording(stop.spent()),
+        Reason::Fields => FIELDS,
+        Reason::Spelling => SPELLING,
+        Reason::Range => RANGE,
+    }
+}
+
+/// Puts it.
 fn put_reason<K: Sink>(text: &mut TextBuffer, sink: &mut K, stop: &Stop, reason: Reason)
     ensures { Adds K.held K.faults sink.old sink.new text.old text.new (unread.reason_text stop.now reason) }
 {
-    match reason {
-        Reason::Ended => text.put(sink, b"the text ends before the table is whole.\n"),
-        Reason::Keyword => put_barred(text, sink, stop.spent()),
-        Reason::Fields => text.put(sink, b"it hasn't the fields of its form.\n"),
-        Reason::Spelling => text.put(
-            sink,
-            b"a field isn't written as its form asks; numbers are decimal digits, without a sign or a leading zero.\n",
-        ),
-        Reason::Range => text.put(sink, b"a number isn't within what its form allows.\n"),
-    }
+    say(
+        text,
+        sink,
+        reason_wording(stop, reason),
+        &[MOST_STRINGS as u128, MOST_TAKES as u128],
+    );
 }
 
 /// Puts the form of a line of a keyword, where it may stand.
@@ -107,31 +79,27 @@ fn put_forms<K: Sink>(text: &mut TextBuffer, sink: &mut K, stop: &Stop)
     put_where(text, sink, stop, Keyword::Listener);
 }
 
-/// Puts that the text may end, where it may.
-fn put_end<K: Sink>(text: &mut TextBuffer, sink: &mut K, ends: bool)
-    ensures { Adds K.held K.faults sink.old sink.new text.old text.new (unread.end_where ends) }
+/// The end of the text, where it may stand.
+fn end_wording(ends: bool) -> &'static [u8]
+    ensures { result.now ≡ unread.end_wording ends }
 {
-    if ends {
-        text.put(sink, b"the end of the text\n");
-    } else {
-        text.put(sink, b"");
-    }
+    if ends { END } else { b"" }
 }
 
 /// Puts any line that may stand where one is refused.
 fn put_any<K: Sink>(text: &mut TextBuffer, sink: &mut K, stop: &Stop)
     ensures { Adds K.held K.faults sink.old sink.new text.old text.new (unread.any_text stop.now) }
 {
-    text.put(sink, b"Here may stand:\n");
+    say(text, sink, MAY_STAND, &[]);
     put_forms(text, sink, stop);
-    put_end(text, sink, stop.may_end());
+    say(text, sink, end_wording(stop.may_end()), &[]);
 }
 
 /// Puts the line that has to stand.
 fn put_one<K: Sink>(text: &mut TextBuffer, sink: &mut K, stop: &Stop, keyword: Keyword)
     ensures { Adds K.held K.faults sink.old sink.new text.old text.new (unread.one_text stop.now keyword) }
 {
-    text.put(sink, b"The line has to be:\n");
+    say(text, sink, HAS_TO_BE, &[]);
     put_form(text, sink, stop.mode(), keyword);
 }
 
@@ -155,9 +123,7 @@ pub fn write_unread<K: Sink>(
     ensures { WritesText K.held K.faults sink.old sink.new result (unread.unread_text line reason stop.now) }
 {
     let mut text = TextBuffer::new();
-    text.put(sink, b"Line ");
-    text.put_number(sink, line);
-    text.put(sink, b" of the table text is refused: ");
+    say(&mut text, sink, LINE, &[line as u128]);
     put_reason(&mut text, sink, stop, reason);
     put_may_stand(&mut text, sink, stop);
     text.finish(sink)

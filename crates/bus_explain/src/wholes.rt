@@ -5,26 +5,15 @@ ghost use Rattle.bus_outer.specs.Sinks.{WritesText};
 ghost use Rattle.bus_outer.specs.Texts.{Adds};
 ghost use Rattle.bus_explain.specs.Wholes as wholes;
 
+use crate::faults::{
+    EXTENSION_TWICE, GAP_NOT_SHORT, GAP_TWICE, LABEL_TWICE, NO_SENDER, NUMBER_TWICE, OFFSET_RANGE,
+    PAIR_TWICE, WHOLE,
+};
 use bus_outer::{Sink, TextBuffer, WriteFault};
+use bus_say::say;
 use bus_table::WholeReason;
 use bus_text::{hex_digit as digit, three_digits};
 use bus_words::{Ext, Label};
-
-/// Puts a sentence on a terminal.
-fn put_terminal<K: Sink>(
-    text: &mut TextBuffer,
-    sink: &mut K,
-    before: &[u8],
-    terminal: u8,
-    behind: &[u8],
-)
-    ensures { Adds K.held K.faults sink.old sink.new text.old text.new (wholes.terminal_text before.now terminal behind.now) }
-{
-    text.put(sink, b"The table is wrong as a whole: ");
-    text.put(sink, before);
-    text.put_number(sink, terminal);
-    text.put(sink, behind);
-}
 
 /// Puts a label in three digits.
 fn put_label<K: Sink>(text: &mut TextBuffer, sink: &mut K, label: Label)
@@ -44,65 +33,24 @@ fn put_ext<K: Sink>(text: &mut TextBuffer, sink: &mut K, ext: Ext)
 fn put_pair<K: Sink>(text: &mut TextBuffer, sink: &mut K, label: Label, ext: Ext)
     ensures { Adds K.held K.faults sink.old sink.new text.old text.new (wholes.pair_text label ext) }
 {
-    text.put(
-        sink,
-        b"The table is wrong as a whole: two SEND lines have the label ",
-    );
+    say(text, sink, LABEL_TWICE, &[]);
     put_label(text, sink, label);
-    text.put(sink, b" with the extension ");
+    say(text, sink, EXTENSION_TWICE, &[]);
     put_ext(text, sink, ext);
-    text.put(
-        sink,
-        b".\nGive one of them another label or another extension.\n",
-    );
+    say(text, sink, PAIR_TWICE, &[]);
 }
 
-/// Puts that no terminal sends.
-fn put_no_sender<K: Sink>(text: &mut TextBuffer, sink: &mut K)
-    ensures { Adds K.held K.faults sink.old sink.new text.old text.new wholes.no_sender_text }
-{
-    text.put(sink, b"The table is wrong as a whole: no terminal sends.\n");
-    text.put(
-        sink,
-        b"Add a SENDER line, and behind it a SEND line for each wordstring of its messages.\n",
-    );
-}
-
-/// Puts what is said of a reason.
-fn put_whole<K: Sink>(text: &mut TextBuffer, sink: &mut K, reason: WholeReason)
-    ensures { Adds K.held K.faults sink.old sink.new text.old text.new (wholes.whole_text reason) }
+/// Puts a reason.
+fn put_reason<K: Sink>(text: &mut TextBuffer, sink: &mut K, reason: WholeReason)
+    ensures { Adds K.held K.faults sink.old sink.new text.old text.new (wholes.reason_text reason) }
 {
     match reason {
-        WholeReason::NoSender => put_no_sender(text, sink),
-        WholeReason::NumberTwice(terminal) => put_terminal(
-            text,
-            sink,
-            b"two terminals have the number ",
-            terminal,
-            b".\nGive one of them another number, from 1 to 128.\n",
-        ),
-        WholeReason::GapTwice(terminal) => put_terminal(
-            text,
-            sink,
-            b"an earlier sender has the terminal gap, TG, of terminal ",
-            terminal,
-            b".\nGive one of them a terminal gap that no other sender has.\n",
-        ),
-        WholeReason::GapNotShort(terminal) => put_terminal(
-            text,
-            sink,
-            b"the synchronization gap, SG, isn't above the terminal gap, TG, of terminal ",
-            terminal,
-            b".\nLower this terminal gap, or raise the synchronization gap.\n",
-        ),
+        WholeReason::NoSender => say(text, sink, NO_SENDER, &[]),
+        WholeReason::NumberTwice(terminal) => say(text, sink, NUMBER_TWICE, &[terminal as u128]),
+        WholeReason::GapTwice(terminal) => say(text, sink, GAP_TWICE, &[terminal as u128]),
+        WholeReason::GapNotShort(terminal) => say(text, sink, GAP_NOT_SHORT, &[terminal as u128]),
         WholeReason::PairTwice(label, ext) => put_pair(text, sink, label, ext),
-        WholeReason::OffsetRange(terminal) => put_terminal(
-            text,
-            sink,
-            b"the transmit interval, TI, isn't above the offset, AT, of terminal ",
-            terminal,
-            b".\nLower this offset, or raise the transmit interval.\n",
-        ),
+        WholeReason::OffsetRange(terminal) => say(text, sink, OFFSET_RANGE, &[terminal as u128]),
     }
 }
 
@@ -111,6 +59,7 @@ pub fn write_whole<K: Sink>(reason: WholeReason, sink: &mut K) -> Result<(), Wri
     ensures { WritesText K.held K.faults sink.old sink.new result (wholes.whole_text reason) }
 {
     let mut text = TextBuffer::new();
-    put_whole(&mut text, sink, reason);
+    say(&mut text, sink, WHOLE, &[]);
+    put_reason(&mut text, sink, reason);
     text.finish(sink)
 }

@@ -28,20 +28,18 @@
 mod ahead;
 mod bearing;
 mod begin;
-mod closeness;
 mod keeping;
 pub mod laws;
 mod leading;
 mod level;
 mod order;
-mod overtaking;
-mod remedies;
 mod room;
 mod rounds;
 mod rules;
 mod sentences;
 mod telling;
 mod times;
+mod wordings;
 mod writing;
 
 pub use bearing::bears;

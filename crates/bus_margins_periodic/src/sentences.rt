@@ -5,81 +5,86 @@ ghost use Rattle.bus_outer.specs.Texts.{Adds};
 ghost use Rattle.bus_table.specs.Turned.{AreTurned};
 ghost use Rattle.bus_margins_periodic.specs.Sentences as sentences;
 
-use crate::closeness::put_begin;
 use crate::level::{Level, Margins};
-use crate::overtaking::put_order;
-use crate::remedies::{put_enough, put_lacking, put_rest};
 use crate::room::{Room, Rooms, holds};
 use crate::telling::margins;
-use crate::writing::put_terminal;
+use crate::wordings::{APART, HELD, LATE, LEADS, NEITHER, ROUND, TURNS, UNHEARD, WAITING, WHERE};
+use crate::writing::number_at;
 use bus_bounds::Bounds;
 use bus_outer::{Sink, TextBuffer, WriteFault};
+use bus_say::say;
 use bus_table::{MOST_SENDERS, Mode, Table, turn_places};
 
-/// Puts that a synchronization gap may come late.
-fn put_waiting<K: Sink>(text: &mut TextBuffer, sink: &mut K, room: Room)
-    ensures { Adds K.held K.faults sink.old sink.new text.old text.new (sentences.waiting_words room) }
-{
-    text.put(
-        sink,
-        b"a sender may wait for a synchronization gap that comes late.",
-    );
-    put_enough(text, sink);
-    text.put(sink, b"the transmit interval were longer by ");
-    put_lacking(text, sink, room);
-    text.put(sink, b", to hold one for each sender");
-    put_rest(text, sink);
+/// A rule that may lack.
+#[derive(Clone, Copy)]
+pub(crate) enum Rule {
+    /// That of order.
+    Order,
+    /// That of synchronization.
+    Sync,
+    /// That of the beginning.
+    Begin,
+    /// That of hearing.
+    Hearing,
 }
 
-/// Puts what the rule of synchronization lacks.
-fn put_sync<K: Sink>(text: &mut TextBuffer, sink: &mut K, room: Option<Room>)
-    ensures { Adds K.held K.faults sink.old sink.new text.old text.new (sentences.sync_words room) }
+/// By how many bit times a rule lacks, rounded up.
+fn lacking(room: Room) -> u64
+    ensures { result ≡ sentences.lacking room }
 {
-    match room {
-        Some(room) => put_waiting(text, sink, room),
-        None => text.put(sink, b""),
+    room.need.saturating_sub(room.have).div_ceil(500)
+}
+
+/// What is said where a rule lacks.
+fn wording(rule: Rule, room: Room) -> &'static [u8]
+    ensures { result.now ≡ sentences.wording rule room }
+{
+    match rule {
+        Rule::Order => if room.first == room.second {
+            LATE
+        } else {
+            HELD
+        },
+        Rule::Sync => WAITING,
+        Rule::Begin => if room.first < room.second {
+            APART
+        } else {
+            ROUND
+        },
+        Rule::Hearing => UNHEARD,
     }
 }
 
-/// Puts that a message may not be heard out.
-fn put_unheard<K: Sink>(
+/// Puts what a rule lacks.
+fn put_lack<K: Sink>(
     text: &mut TextBuffer,
     sink: &mut K,
     table: &Table,
     places: &[usize; MOST_SENDERS],
-    room: Room,
-)
-    requires { AreTurned table.now places.now }
-    ensures { Adds K.held K.faults sink.old sink.new text.old text.new (sentences.unheard_words table.now room) }
-{
-    text.put(sink, b"a message may not be heard out.");
-    put_enough(text, sink);
-    text.put(sink, b"the terminal gap of terminal ");
-    put_terminal(text, sink, table, places, room.first);
-    text.put(sink, b" were longer by ");
-    put_lacking(text, sink, room);
-    put_rest(text, sink);
-}
-
-/// Puts what the rule of hearing lacks.
-fn put_hearing<K: Sink>(
-    text: &mut TextBuffer,
-    sink: &mut K,
-    table: &Table,
-    places: &[usize; MOST_SENDERS],
+    rule: Rule,
     room: Option<Room>,
 )
     requires { AreTurned table.now places.now }
-    ensures { Adds K.held K.faults sink.old sink.new text.old text.new (sentences.hearing_words table.now room) }
+    ensures { Adds K.held K.faults sink.old sink.new text.old text.new (sentences.lack_words table.now rule room) }
 {
     match room {
-        Some(room) => put_unheard(text, sink, table, places, room),
+        Some(room) => say(
+            text,
+            sink,
+            wording(rule, room),
+            &[
+                number_at(table, places, room.first) as u128,
+                number_at(table, places, room.second) as u128,
+                number_at(table, places, room.third) as u128,
+                lacking(room) as u128,
+            ],
+        ),
         None => text.put(sink, b""),
     }
 }
 
 /// Puts what the first rule lacks that does.
-fn put_lack<K: Sink>(
+fn put_first_lack<K: Sink>(
     text: &mut TextBuffer,
     sink: &mut K,
     table: &Table,
@@ -87,16 +92,16 @@ fn put_lack<K: Sink>(
     rooms: Rooms,
 )
     requires { AreTurned table.now places.now }
-    ensures { Adds K.held K.faults sink.old sink.new text.old text.new (sentences.lack_words table.now rooms) }
+    ensures { Adds K.held K.faults sink.old sink.new text.old text.new (sentences.first_lack_words table.now rooms) }
 {
     if !holds(rooms.order) {
-        put_order(text, sink, table, places, rooms.order);
+        put_lack(text, sink, table, places, Rule::Order, rooms.order);
     } else if !holds(rooms.sync) {
-        put_sync(text, sink, rooms.sync);
+        put_lack(text, sink, table, places, Rule::Sync, rooms.sync);
     } else if !holds(rooms.begin) {
-        put_begin(text, sink, table, places, rooms.begin);
+        put_lack(text, sink, table, places, Rule::Begin, rooms.begin);
     } else {
-        put_hearing(text, sink, table, places, rooms.hearing);
+        put_lack(text, sink, table, places, Rule::Hearing, rooms.hearing);
     }
 }
 
@@ -111,8 +116,8 @@ fn put_neither<K: Sink>(
     requires { AreTurned table.now places.now }
     ensures { Adds K.held K.faults sink.old sink.new text.old text.new (sentences.drifting_words Level.Neither table.now rooms) }
 {
-    text.put(sink, b"nothing is promised of the senders' turns: ");
-    put_lack(text, sink, table, places, rooms);
+    say(text, sink, NEITHER, &[]);
+    put_first_lack(text, sink, table, places, rooms);
 }
 
 /// Puts whether the senders keep their turns.
@@ -128,14 +133,8 @@ fn put_drifting<K: Sink>(
     ensures { Adds K.held K.faults sink.old sink.new text.old text.new (sentences.drifting_words level table.now rooms) }
 {
     match level {
-        Level::Turns => text.put(
-            sink,
-            b"the senders take turns for ever, with as many messages for each and however long these are, though their offsets may drift.\n",
-        ),
-        Level::Leads => text.put(
-            sink,
-            b"the senders take turns for ever behind the first of them, with as many messages for each and however long these are.\n",
-        ),
+        Level::Turns => say(text, sink, TURNS, &[]),
+        Level::Leads => say(text, sink, LEADS, &[]),
         Level::Neither => put_neither(text, sink, table, places, rooms),
     }
 }
@@ -146,14 +145,7 @@ fn write_sentence<K: Sink>(table: &Table, margins: Margins, sink: &mut K) -> Res
 {
     let places = turn_places(table);
     let mut text = TextBuffer::new();
-    text.put(
-        sink,
-        b"Where oscillators are off by up to 50 millionths and nothing else is inexact, ",
-    );
-    text.put(
-        sink,
-        b"from power-ups at one moment and with no delay on the way, ",
-    );
+    say(&mut text, sink, WHERE, &[]);
     put_drifting(
         &mut text,
         sink,

@@ -51,7 +51,7 @@ fn put_head<K: Sink>(text: &mut TextBuffer, sink: &mut K, level: Level, least: u
 
 /// The number of the terminal at a place in turn order, and 0 behind the last.
 #[tactic(auto, using(crate::proofs::PlaceLemmas::number_is, crate::proofs::PlaceLemmas::number_behind))]
-fn number_at(table: &Table, places: &[usize; MOST_SENDERS], k: usize) -> u8
+pub(crate) fn number_at(table: &Table, places: &[usize; MOST_SENDERS], k: usize) -> u8
     requires { AreTurned table.now places.now }
     ensures { result ≡ texts.number_at table.now k }
 {
@@ -63,7 +63,7 @@ fn number_at(table: &Table, places: &[usize; MOST_SENDERS], k: usize) -> u8
 }
 
 /// Puts the number of a terminal.
-pub(crate) fn put_terminal<K: Sink>(
+fn put_terminal<K: Sink>(
     text: &mut TextBuffer,
     sink: &mut K,
     table: &Table,

@@ -2,7 +2,7 @@
 use Rattle.std.specs.Prelude.{ℕ, ◌+◌, ◌-◌, ◌*◌, ◌^◌, Bool, true, false, ◌==◌, min, max, List, [], ◌++◌, length, fold, codes, decimal}
 use Rattle.std.specs.Prelude.{Option, Some, None, if◌then◌else◌}
 use Rattle.std.specs.Option.{option_map_or, unwrap_or}
-use Rattle.bus_explain.specs.Times.{time_text}
+use Rattle.bus_say.specs.Times.{time_text}
 use Rattle.bus_reach.specs.declared.limit.Limit.{Limit}
 use Rattle.bus_reach.specs.declared.limit.Rule.{Rule}
 use Rattle.bus_reach.specs.declared.limit.Rule.TheVariants.{LeastGap, NextGap, OwnGap, Sync}

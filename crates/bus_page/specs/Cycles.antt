@@ -1,7 +1,7 @@
 -- The shortest above the longest cycle of an accepted aperiodic table, on one axis, each message joined with itself.
 use Rattle.std.specs.Prelude.{ℕ, ◌+◌, ◌-◌, List, ◌++◌, codes, decimal}
 use Rattle.std.specs.List.{flat_map}
-use Rattle.bus_explain.specs.Times.{time_text}
+use Rattle.bus_say.specs.Times.{time_text}
 use Rattle.bus_shapes.specs.declared.area.Area.{Area}
 use Rattle.bus_shapes.specs.declared.class.Class.{Class}
 use Rattle.bus_shapes.specs.declared.class.Class.TheVariants.{Detail, GapWords, IntervalWords}

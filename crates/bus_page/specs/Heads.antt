@@ -7,7 +7,7 @@ use Rattle.bus_table.specs.Tables.{Table}
 use Rattle.bus_regime.specs.declared.table_verdict.TableVerdict.{TableVerdict}
 use Rattle.bus_regime.specs.Lines.{verdict_words}
 use Rattle.bus_explain.specs.Figures.{load, load_words, spare}
-use Rattle.bus_explain.specs.Times.{time_text}
+use Rattle.bus_say.specs.Times.{time_text}
 use Rattle.bus_bounds.specs.Bounds.{Bounds}
 use Rattle.bus_margins.specs.declared.level.Level.{Level as AperiodicLevel}
 use Rattle.bus_margins.specs.declared.level.Level.TheVariants as aperiodic_levels

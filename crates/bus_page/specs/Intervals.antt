@@ -2,7 +2,7 @@
 -- and whom each of these synchronizes.
 use Rattle.std.specs.Prelude.{ℕ, ◌+◌, ◌-◌, List, ◌++◌, codes}
 use Rattle.std.specs.List.{flat_map}
-use Rattle.bus_explain.specs.Times.{time_text}
+use Rattle.bus_say.specs.Times.{time_text}
 use Rattle.bus_shapes.specs.declared.class.Class.TheVariants.{Small}
 use Rattle.bus_shapes.specs.declared.scale.Scale.{Scale}
 use Rattle.bus_shapes.specs.declared.area.Area.{Area}

@@ -5,7 +5,7 @@ use Rattle.std.specs.List.{flat_map}
 use Rattle.bus_text.specs.Digits.{hexadecimal, hex_digit}
 use Rattle.bus_table.specs.declared.line.SendLine.{SendLine}
 use Rattle.bus_table.specs.Tables.{Sender, Table}
-use Rattle.bus_explain.specs.Times.{time_text}
+use Rattle.bus_say.specs.Times.{time_text}
 use Rattle.bus_reach.specs.Latency.{latency}
 use Rattle.bus_page.specs.Messages.{terminal_name}
 use Rattle.bus_page.specs.Rows.{rows}

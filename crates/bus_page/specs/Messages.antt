@@ -1,6 +1,6 @@
 -- Messages and gaps as boxes of a picture, and what stands around these: the axes, and the name of a cycle.
 use Rattle.std.specs.Prelude.{ℕ, ◌+◌, ◌-◌, ◌/◌, nat_le, List, [], ◌++◌, codes, decimal, if◌then◌else◌}
-use Rattle.bus_explain.specs.Times.{time_text}
+use Rattle.bus_say.specs.Times.{time_text}
 use Rattle.bus_shapes.specs.declared.area.Area.{Area}
 use Rattle.bus_shapes.specs.declared.axis.Axis.{Axis}
 use Rattle.bus_shapes.specs.declared.axis.Unit.TheVariants.{BitTimes, Microseconds}

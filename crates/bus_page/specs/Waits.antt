@@ -2,7 +2,7 @@
 -- end of its longest message.
 --   most   the verdict's: two starts of a sender are at most so far apart
 use Rattle.std.specs.Prelude.{ℕ, ◌+◌, ◌-◌, ◌*◌, Bool, ◌==◌, max, List, ◌++◌, length, fold, codes, if◌then◌else◌}
-use Rattle.bus_explain.specs.Times.{time_text}
+use Rattle.bus_say.specs.Times.{time_text}
 use Rattle.bus_table.specs.Lengths.{longest}
 use Rattle.bus_table.specs.Tables.{Sender}
 use Rattle.bus_shapes.specs.declared.class.Class.{Class}

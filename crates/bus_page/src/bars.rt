@@ -9,9 +9,9 @@ use crate::measures::{
 };
 use crate::message::area_of;
 use crate::paint::{Paint, begin_picture, end_picture, put_plain};
-use bus_explain::put_time;
 use bus_outer::{Sink, TextBuffer};
 use bus_reach::{Limit, Rule};
+use bus_say::put_time;
 use bus_shapes::{Area, Class, Scale, begin_words, end_words};
 
 /// Puts words and the number of a terminal.

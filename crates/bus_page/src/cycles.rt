@@ -10,8 +10,8 @@ use crate::measures::{BOX_HEIGHT, LONG_TOP, PLOT_LEFT, PLOT_WIDTH, SHORT_TOP};
 use crate::message::{put_axes, put_gap, put_lane, put_stretch};
 use crate::paint::{Paint, begin_painted, begin_picture, end_painted, end_picture, put_plain};
 use crate::turn::Turn;
-use bus_explain::put_time;
 use bus_outer::{Sink, TextBuffer};
+use bus_say::put_time;
 use bus_shapes::{Area, Class, Scale, begin_words, end_words};
 
 /// The times of a table that its cycles are drawn by, in bit times.

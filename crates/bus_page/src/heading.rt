@@ -7,11 +7,12 @@ ghost use Rattle.bus_page.specs.Heads as definition;
 
 use crate::style::put_style;
 use bus_bounds::Bounds;
-use bus_explain::{load, put_load, put_time, spare};
+use bus_explain::{load, put_load, spare};
 use bus_margins::Level as AperiodicLevel;
 use bus_margins_periodic::Level as PeriodicLevel;
 use bus_outer::{Sink, TextBuffer};
 use bus_regime::{TableVerdict, put_verdict};
+use bus_say::put_time;
 use bus_table::{Mode, Table};
 
 /// Puts all up to the words of the title.

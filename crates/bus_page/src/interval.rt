@@ -9,8 +9,8 @@ use crate::measures::{PLOT_LEFT, PLOT_WIDTH, SHORT_TOP};
 use crate::message::{area_of, put_axes, put_lane, put_message, put_terminal};
 use crate::paint::{Paint, begin_painted, begin_picture, end_painted, end_picture};
 use crate::slot::{Slot, Synced};
-use bus_explain::put_time;
 use bus_outer::{Sink, TextBuffer};
+use bus_say::put_time;
 use bus_shapes::{Area, Class, Scale, put_words};
 
 /// Puts whom a gap synchronizes.

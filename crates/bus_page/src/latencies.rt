@@ -6,9 +6,9 @@ ghost use Rattle.bus_page.specs.Latencies as definition;
 ghost use Rattle.bus_page.specs.Rows.{rows};
 
 use crate::message::put_terminal;
-use bus_explain::put_time;
 use bus_outer::{Sink, TextBuffer};
 use bus_reach::latency;
+use bus_say::put_time;
 use bus_table::{SendLine, Sender, Table};
 use bus_text::{hex_digit, three_digits};
 

@@ -9,8 +9,8 @@ use crate::measures::{
 };
 use crate::paint::{Paint, begin_painted, end_painted, put_plain};
 use crate::turn::Stretch;
-use bus_explain::put_time;
 use bus_outer::{Sink, TextBuffer};
+use bus_say::put_time;
 use bus_shapes::measures::PIXEL;
 use bus_shapes::{Area, Axis, Class, Scale, Unit, begin_words, end_words, put_axis, put_words};
 

@@ -10,8 +10,8 @@ use crate::measures::{
 };
 use crate::message::{area_of, put_terminal};
 use crate::paint::{Paint, begin_picture, end_picture, put_plain};
-use bus_explain::put_time;
 use bus_outer::{Sink, TextBuffer};
+use bus_say::put_time;
 use bus_shapes::{Class, Scale, begin_words, end_words};
 use bus_table::{Sender, longest};
 

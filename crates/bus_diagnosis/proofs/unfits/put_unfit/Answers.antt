@@ -2,6 +2,4 @@ use Rattle.bus_outer.proofs.TextLaws.{◌▸◌}
 use Rattle.bus_diagnosis.proofs.unfits.put_unfit.Goals as goal
 
 pub returns : goal.returns
-returns g c =
-    c.put.ensures ▸ c.put_number.ensures ▸ c.put-2.ensures ▸ c.put_number-2.ensures ▸ c.put-3.ensures ▸ c.put_number-3.ensures
-    ▸ c.put_misfit.ensures
+returns g c = c.say.ensures ▸ c.put_misfit.ensures

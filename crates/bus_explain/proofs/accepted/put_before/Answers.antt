@@ -1,16 +1,18 @@
-use Rattle.std.proofs.Common.{◌≡◌, List, ℕ, ◌++◌, ap, ◌∙◌, subst}
+use Rattle.std.proofs.Common.{◌≡◌, List, [], ℕ, ◌++◌, ap, ◌∙◌, subst}
 use Rattle.bus_outer.specs.Texts.{Adds}
 use Rattle.bus_outer.proofs.TextLaws.{◌▸◌}
 use Rattle.bus_table.specs.declared.mode.Mode.{Mode}
 use Rattle.bus_table.specs.Tables.{Table}
-use Rattle.bus_explain.specs.Accepted.{accepted_line, cycles_line, spare_line, load_line, before_senders}
+use Rattle.bus_explain.specs.Accepted.{cycles_lines, load_line, before_senders}
+use Rattle.bus_say.specs.Sentences.{said}
+use Rattle.bus_explain.specs.declared.wordings.TheConstants as the
 use Rattle.bus_explain.specs.Figures.{load, spare}
 use Rattle.bus_explain.proofs.AcceptLemmas.{most_is_some}
 use Rattle.bus_explain.proofs.accepted.put_before.Goals as goal
 
 -- what is said, of these figures
 abbrev told : Mode → (least most spare load : ℕ) → List ℕ
-told mode least most spare load = accepted_line ++ cycles_line mode least most ++ spare_line mode spare ++ load_line load
+told mode least most spare load = said the.ACCEPTED.now [] ++ cycles_lines mode least most spare ++ load_line load
 
 same_told : (table : Table) (mode : Mode) (least most a b : ℕ) → mode ≡ table.mode → a ≡ spare table least → b ≡ load table most
     → told mode least most a b ≡ before_senders table least most
@@ -30,4 +32,4 @@ returns g c =
     let same = same_told c.args.table.now c.mode-mode.result c.args.least c.args.most c.spare-spare.result c.load-load.result c.mode-mode.ensures.value
     c.spare-spare.ensures c.load-load.ensures in
     subst (λ (t : List ℕ). Adds g.K.Sink.held g.K.Sink.faults c.args.sink.now c.put_load_line.new.sink c.args.text.now c.put_load_line.new.text t) same
-    (c.put.ensures ▸ c.put-2.ensures ▸ c.put_cycles.ensures ▸ c.put_spare.ensures ▸ c.put_load_line.ensures)
+    (c.say.ensures ▸ c.put_cycles.ensures ▸ c.put_load_line.ensures)

@@ -3,4 +3,4 @@ use Rattle.bus_explain.proofs.accepted.put_load_line.Goals as goal
 
 pub returns : goal.returns
 returns g c =
-    c.put.ensures ▸ c.put_load.ensures ▸ c.put-2.ensures
+    c.say.ensures ▸ c.put_load.ensures ▸ c.say-2.ensures

@@ -2,4 +2,4 @@ use Rattle.bus_outer.proofs.TextLaws.{◌▸◌}
 use Rattle.bus_explain.proofs.senders.put_at_offsets.Goals as goal
 
 pub returns : goal.returns
-returns g c = c.put_offset_opening.ensures ▸ c.put_offset_head.ensures ▸ c.put_offsets.ensures
+returns g c = c.say.ensures ▸ c.put_offsets.ensures

@@ -7,6 +7,6 @@ use Rattle.bus_explain.proofs.unread.put_one.Goals as goal
 
 pub returns : goal.returns
 returns g c =
-    c.put.ensures
-    ▸ subst (λ (t : List ℕ). Adds g.K.Sink.held g.K.Sink.faults c.put.new.sink c.put_form.new.sink c.put.new.self c.put_form.new.text t)
+    c.say.ensures
+    ▸ subst (λ (t : List ℕ). Adds g.K.Sink.held g.K.Sink.faults c.say.new.sink c.put_form.new.sink c.say.new.text c.put_form.new.text t)
     (ap (λ (mode : Mode). form_text mode c.args.keyword) c.mode.ensures) c.put_form.ensures

@@ -4,4 +4,4 @@ use Rattle.bus_margins_periodic.proofs.sentences.write_sentence.Goals as goal
 pub returns : goal.returns
 returns g c =
     ends_text g.K.Sink.held g.K.Sink.faults c.args.sink.now c.put_drifting.new.sink c.finish.new.sink c.new-text.result c.put_drifting.new.text c.finish.result _
-    c.finish.ensures (c.put.ensures ▸ c.put-2.ensures ▸ c.put_drifting.ensures) c.new-text.ensures
+    c.finish.ensures (c.say.ensures ▸ c.put_drifting.ensures) c.new-text.ensures

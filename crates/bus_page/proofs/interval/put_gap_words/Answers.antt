@@ -2,7 +2,7 @@ use Rattle.std.proofs.Common.{List, ℕ, ◌++◌, ◌+◌, ◌-◌, ◌*◌, �
 use Rattle.std.specs.Prelude.{decimal}
 use Rattle.bus_outer.specs.Texts.{Adds}
 use Rattle.bus_outer.proofs.TextLaws.{◌▸◌}
-use Rattle.bus_explain.specs.Times.{time_text}
+use Rattle.bus_say.specs.Times.{time_text}
 use Rattle.bus_page.specs.Messages.{terminal_name}
 use Rattle.bus_page.specs.Intervals.{synced_words}
 use Rattle.bus_page.proofs.interval.put_gap_words.Goals as goal

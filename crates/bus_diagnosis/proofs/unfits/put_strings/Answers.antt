@@ -1,6 +1,0 @@
-use Rattle.bus_outer.proofs.TextLaws.{◌▸◌}
-use Rattle.bus_diagnosis.proofs.unfits.put_strings.Goals as goal
-
-pub returns : goal.returns
-returns g c =
-    c.put.ensures ▸ c.put_counted.ensures ▸ c.put-2.ensures ▸ c.put_counted-2.ensures ▸ c.put-3.ensures

@@ -1,5 +1,0 @@
-use Rattle.bus_outer.proofs.TextLaws.{◌▸◌}
-use Rattle.bus_explain.proofs.accepted.put_fall.Goals as goal
-
-pub returns : goal.returns
-returns g c = c.put.ensures ▸ c.put_time.ensures ▸ c.put-2.ensures

@@ -1,6 +1,0 @@
-use Rattle.bus_outer.proofs.TextLaws.{◌▸◌}
-use Rattle.bus_explain.proofs.times.put_time.Goals as goal
-
-pub returns : goal.returns
-returns g c =
-    c.put_number.ensures ▸ c.put_unit.ensures ▸ c.put_microseconds.ensures ▸ c.put_microseconds_unit.ensures ▸ c.put.ensures

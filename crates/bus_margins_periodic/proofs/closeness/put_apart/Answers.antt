@@ -1,7 +1,0 @@
-use Rattle.bus_outer.proofs.TextLaws.{◌▸◌}
-use Rattle.bus_margins_periodic.proofs.closeness.put_apart.Goals as goal
-
-pub returns : goal.returns
-returns g c =
-    c.put.ensures ▸ c.put_terminal.ensures ▸ c.put-2.ensures ▸ c.put_terminal-2.ensures ▸ c.put-3.ensures ▸ c.put_enough.ensures
-    ▸ c.put-4.ensures ▸ c.put_lacking.ensures ▸ c.put_rest.ensures
