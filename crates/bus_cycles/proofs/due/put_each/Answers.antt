@@ -1,8 +1,9 @@
-use Rattle.std.proofs.Common.{List, ℕ, sym, subst}
+use Rattle.std.proofs.Common.{List, ℕ, sym, subst, arith}
 use Rattle.bus_strings.proofs.ListLaws.{flat_map-take}
 use Rattle.bus_outer.specs.Texts.{Adds}
 use Rattle.bus_outer.proofs.TextLaws.{◌▸◌}
 use Rattle.bus_cycles.specs.Dues.{due_text}
+use Rattle.std.proofs.lemmas.Grind.{common_steps}
 use Rattle.bus_cycles.proofs.due.put_each.Goals as goal
 
 pub loop-sender-preserved : goal.loop-sender-preserved
@@ -10,3 +11,6 @@ loop-sender-preserved g c =
     let next = flat_map-take (due_text c.args.page.now c.args.holds.now c.args.begins.now) c.args.senders.now c.loop-sender.sender-index c.sender-item.result c.loop-sender-test.true c.sender-item.is in
     subst (λ (t : List ℕ). Adds g.K.Sink.held g.K.Sink.faults c.args.sink.now c.put_due.new.sink c.args.text.now c.put_due.new.text t) (sym next)
     (c.loop-sender.invariant ▸ c.put_due.ensures)
+
+pub returns : goal.returns
+returns g c = grind (arith, common_steps)

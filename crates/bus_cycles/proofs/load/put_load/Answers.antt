@@ -1,7 +1,8 @@
-use Rattle.std.proofs.Common.{◌≡◌, List, [], ℕ, cond, ap, sym, subst, ◌∙◌}
+use Rattle.std.proofs.Common.{◌≡◌, List, [], ℕ, cond, ap, sym, subst, ◌∙◌, arith}
 use Rattle.std.proofs.lemmas.Bool.{lt-ltb}
 use Rattle.bus_outer.specs.Texts.{Adds}
 use Rattle.bus_cycles.specs.Loads.{busy_of, load_at, share_words}
+use Rattle.std.proofs.lemmas.Grind.{common_steps}
 use Rattle.bus_cycles.proofs.load.put_load.Goals as goal
 
 pub returns-then-row-lt-MOST_ROWS : goal.returns-then-row-lt-MOST_ROWS
@@ -13,3 +14,6 @@ returns-then-row-lt-MOST_ROWS g c list is =
     ∙ ap (share_words page row) (sym (c.busy_of-busy.ensures list is)) in
     subst (λ (t : List ℕ). Adds g.K.Sink.held g.K.Sink.faults c.args.sink.now c.put_share_words.new.sink c.args.text.now c.put_share_words.new.text t)
     (sym text) c.put_share_words.ensures
+
+pub returns-else-row-lt-MOST_ROWS : goal.returns-else-row-lt-MOST_ROWS
+returns-else-row-lt-MOST_ROWS g c = grind (arith, common_steps)

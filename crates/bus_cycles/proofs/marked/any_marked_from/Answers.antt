@@ -6,6 +6,7 @@ use Rattle.bus_cycles.specs.inside.Bounds.{IsSent}
 use Rattle.bus_cycles.specs.inside.Seeking.{Seeks}
 use Rattle.bus_cycles.specs.Rows.{Extent, rows_of}
 use Rattle.bus_cycles.proofs.BeginLemmas.{seeks_more, seeks_new}
+use Rattle.std.proofs.lemmas.Grind.{common_steps}
 use Rattle.bus_cycles.proofs.marked.any_marked_from.Goals as goal
 
 pub loop-sent-preserved-then-is_new : goal.loop-sent-preserved-then-is_new
@@ -35,3 +36,6 @@ loop-sent-preserved c =
       each = (subst (AllByRecursion IsSent) c.in-Some.ensures.steps c.loop-sent.invariant.each).1;
       few = omega (arith, c.loop-sent.invariant.few, c.with-row.ensures.place, ap length c.in-Some.ensures.steps);
     }
+
+pub returns : goal.returns
+returns c = grind (arith, common_steps)

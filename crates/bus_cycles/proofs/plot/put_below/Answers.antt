@@ -1,7 +1,8 @@
-use Rattle.std.proofs.Common.{Bool, List, ℕ, [], cond, ap, sym, subst, ◌∙◌}
+use Rattle.std.proofs.Common.{Bool, List, ℕ, [], cond, ap, sym, subst, ◌∙◌, arith}
 use Rattle.bus_outer.specs.Texts.{Adds}
 use Rattle.bus_cycles.specs.CyclesTexts.{axes_below}
 use Rattle.bus_cycles.specs.Pages.{bottom_of}
+use Rattle.std.proofs.lemmas.Grind.{common_steps}
 use Rattle.bus_cycles.proofs.plot.put_below.Goals as goal
 
 pub returns-then-is_long : goal.returns-then-is_long
@@ -11,3 +12,6 @@ returns-then-is_long g c =
     (ap (axes_below page.scale) c.bottom.ensures.value
     ∙ sym (ap (λ (b : Bool). cond b (axes_below page.scale (bottom_of page)) []) (sym c.is_long.ensures ∙ c.if-is_long.true)))
     c.put_axes_below.ensures
+
+pub returns-else-is_long : goal.returns-else-is_long
+returns-else-is_long g c = grind (arith, common_steps)

@@ -1,9 +1,10 @@
-use Rattle.std.proofs.Common.{List, ℕ, false, sym, subst}
+use Rattle.std.proofs.Common.{List, ℕ, false, sym, subst, arith}
 use Rattle.bus_strings.proofs.ListLaws.{flat_map-next}
 use Rattle.bus_outer.specs.Texts.{Adds}
 use Rattle.bus_outer.proofs.TextLaws.{◌▸◌}
 use Rattle.bus_dump.specs.Lanes.{lane_with}
 use Rattle.bus_dump.specs.inside.Standing.{lane_within}
+use Rattle.std.proofs.lemmas.Grind.{common_steps}
 use Rattle.bus_dump.proofs.save_file.show_part.Goals as goal
 
 pub loop-lane-preserved : goal.loop-lane-preserved
@@ -12,3 +13,6 @@ loop-lane-preserved g c =
     (sym (flat_map-next (lane_within c.args.first c.args.breach c.args.table.now c.args.lanes.now) c.args.lanes.now c.loop-lane.lane-index
     (lane_with false 0) c.loop-lane-test.true))
     (c.loop-lane.invariant ▸ c.show_within.ensures)
+
+pub returns : goal.returns
+returns g c = grind (arith, common_steps)

@@ -1,4 +1,4 @@
-use Rattle.std.proofs.Common.{List, ℕ, ◌∷◌, ◌++◌, [], take, ap, sym, ◌∙◌, subst}
+use Rattle.std.proofs.Common.{List, ℕ, ◌∷◌, ◌++◌, [], take, ap, sym, ◌∙◌, subst, arith}
 use Rattle.std.proofs.lemmas.List.{take_more}
 use Rattle.bus_outer.specs.Texts.{Adds}
 use Rattle.bus_outer.proofs.TextLaws.{◌▸◌}
@@ -7,6 +7,7 @@ use Rattle.bus_table.specs.Tables.{Sender}
 use Rattle.bus_table.specs.declared.line.TakeLine.{TakeLine}
 use Rattle.bus_filter.specs.ReceivedTexts.{taker_text}
 use Rattle.bus_filter.specs.inside.Putting.{sender_put}
+use Rattle.std.proofs.lemmas.Grind.{common_steps}
 use Rattle.bus_filter.proofs.terminals.put_senders.Goals as goal
 
 pub loop-sender-preserved : goal.loop-sender-preserved
@@ -24,3 +25,6 @@ loop-sender-preserved g c =
           (c.loop-sender.invariant.text ▸ subst (λ (t : List ℕ). Adds g.K.Sink.held g.K.Sink.faults c.loop-sender.sink c.put_taker.new.sink c.loop-sender.text c.put_taker.new.text t) own
           c.put_taker.ensures.text);
     }
+
+pub returns : goal.returns
+returns g c = grind (arith, common_steps)

@@ -4,3 +4,6 @@ use Rattle.bus_filter.proofs.writing.put_takes.Goals as goal
 
 pub loop-line-preserved : goal.loop-line-preserved
 loop-line-preserved g c = grind (arith, common_steps)
+
+pub returns : goal.returns
+returns g c = grind (arith, common_steps)

@@ -3,6 +3,7 @@ use Rattle.bus_outer.specs.Texts.{Adds}
 use Rattle.bus_outer.proofs.TextLaws.{◌▸◌}
 use Rattle.bus_page.specs.Bars.{bar_text}
 use Rattle.bus_page.proofs.RowLemmas.{rows_more}
+use Rattle.std.proofs.lemmas.Grind.{common_steps}
 use Rattle.bus_page.proofs.bars.put_bar_rows.Goals as goal
 
 pub loop-limit-preserved : goal.loop-limit-preserved
@@ -13,3 +14,6 @@ loop-limit-preserved g c =
           (c.loop-limit.invariant.text ▸ c.put_bar.ensures);
       top = omega (arith, c.loop-limit.invariant.top);
     }
+
+pub returns : goal.returns
+returns g c = grind (arith, common_steps)

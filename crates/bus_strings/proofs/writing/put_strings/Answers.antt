@@ -4,3 +4,6 @@ use Rattle.bus_strings.proofs.writing.put_strings.Goals as goal
 
 pub loop-string-preserved : goal.loop-string-preserved
 loop-string-preserved g c = grind (arith, common_steps)
+
+pub returns : goal.returns
+returns g c = grind (arith, common_steps)
