@@ -183,4 +183,5 @@ launch_anew() {
 transcript() {
   rm -rf .told && mkdir .told && cp ./*.table ./*.messages ./*.cable ./*.trace .told
   (cd .told && grep '^\$ ' "../$1" | while read -r _ command; do printf '$ %s\n' "$command" && eval "$command"; done)
+  :
 }
