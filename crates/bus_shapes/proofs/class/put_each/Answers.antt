@@ -4,3 +4,6 @@ use Rattle.bus_shapes.proofs.class.put_each.Goals as goal
 
 pub loop-class-preserved : goal.loop-class-preserved
 loop-class-preserved g c = grind (arith, common_steps)
+
+pub returns : goal.returns
+returns g c = grind (arith, common_steps)

@@ -5,6 +5,7 @@ use Rattle.bus_strings.specs.Transmissions.{end_of}
 use Rattle.bus_shapes.specs.Sayings.{Sent}
 use Rattle.bus_shapes.specs.Sending.{sents_from}
 use Rattle.bus_shapes.proofs.SendingLemmas.{tell, sents_more, sents_end}
+use Rattle.std.proofs.lemmas.Grind.{common_steps}
 use Rattle.bus_shapes.proofs.sents.SentsIterator.next.Goals as goal
 
 pub returns-then-self-clause-steps : goal.returns-then-self-clause-steps
@@ -42,3 +43,6 @@ returns-clause-steps c =
 
 pub returns-clause-goes : goal.returns-clause-goes
 returns-clause-goes c = let steps = returns-clause-steps c in search rules
+
+pub returns-then-self-clause-goes : goal.returns-then-self-clause-goes
+returns-then-self-clause-goes c = grind (arith, common_steps)
