@@ -3,6 +3,7 @@ use Rattle.bus_outer.specs.Texts.{Adds}
 use Rattle.bus_outer.proofs.TextLaws.{◌▸◌}
 use Rattle.bus_picture.specs.Faults.{fault_lane}
 use Rattle.bus_picture.proofs.LaneLemmas.{one_more}
+use Rattle.std.proofs.lemmas.Grind.{common_steps}
 use Rattle.bus_picture.proofs.faults.put_fault_lanes.Goals as goal
 
 pub loop-k-preserved : goal.loop-k-preserved
@@ -10,3 +11,6 @@ loop-k-preserved g c =
     subst (λ (t : List ℕ). Adds g.K.Sink.held g.K.Sink.faults c.args.sink.now c.put_fault_lane.new.sink c.args.text.now c.put_fault_lane.new.text t)
     (sym (one_more (fault_lane c.args.near c.args.left c.args.fault.now) c.args.lanes.now c.loop-k.k _ (omega arith)))
     (c.loop-k.invariant ▸ c.put_fault_lane.ensures)
+
+pub returns : goal.returns
+returns g c = grind (arith, common_steps)
