@@ -21,3 +21,4 @@ pub mod FaultLemmas
 pub mod MeaningLemmas
 mod FrontLists
 mod FrontLemmas
+mod WindowLemmas

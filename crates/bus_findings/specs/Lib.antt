@@ -10,5 +10,6 @@ pub mod Texts
 pub mod Files
 pub mod Laws
 pub mod Fronts
+pub mod Windows
 pub mod Meanings
 pub mod inside

@@ -7,10 +7,12 @@ ghost use Rattle.bus_findings.specs.Laws.{CleanIsUnblamed, UnblamedIsClean, File
 ghost use Rattle.bus_findings.specs.Laws.{SilentIsDue, NotSilentIsNotDue};
 ghost use Rattle.bus_findings.specs.Laws.{GoodBusHasNoFault, NoFaultIsGoodBus, GoodFileHasNoFault, CourseFileHasNoFault};
 ghost use Rattle.bus_findings.specs.Fronts.{FrontsTell};
+ghost use Rattle.bus_findings.specs.Windows.{WindowsAreOfCourses, WindowsKeep};
 ghost use Rattle.bus_findings.specs.Meanings.{FileAmountsAreMeant, FileGapIsMeant};
 
 use bus_recording::laws::{
     file_amounts_are_true, files_are_clean, findings_are_just, recordings_count_from_anywhere,
+    windows_are_files,
 };
 
 /// A start is told to be too early, or late, exactly where it is so in the words of `bus_recording`, and by just as much.
@@ -85,3 +87,11 @@ pub fn fault_sums_are_told()
 pub fn fronts_tell()
     ensures { FrontsTell }
 {}
+
+/// A window of a trace, what begins at a bit time or later, stands in a file as the trace does: so that no window, too, has a false alarm.
+pub fn windows_stand_in_files()
+    ensures keep { WindowsKeep }
+    ensures courses { WindowsAreOfCourses }
+{
+    windows_are_files();
+}

@@ -22,3 +22,4 @@ mod Names
 mod Until
 mod Filed
 mod FileAmounts
+mod Windowed

@@ -16,4 +16,5 @@ pub mod Found
 pub mod Exact
 pub mod Names
 pub mod Files
+pub mod Windows
 pub mod FileAmounts

@@ -17,6 +17,7 @@ ghost use Rattle.bus_recording.specs.Rounding.{GapInTicks, IntervalInTicks, Late
 ghost use Rattle.bus_recording.specs.Shifts.{CountsFromAnywhere, GapLater, IntervalLater, LateLater, NextLater, SyncLater};
 ghost use Rattle.bus_recording.specs.Walk.{GapAmount, IntervalAmount, LateAmount};
 ghost use Rattle.bus_recording.specs.Walk.{WalkFindsDue, WalkFindsElapsed, WalkFindsNoSync, WalkFindsNotDue, WalkFindsSync};
+ghost use Rattle.bus_recording.specs.Windows.{WindowIsFile, WindowIsTold};
 
 /// A finding is just: a terminal that keeps its bounds has none, whatever the others do.
 pub fn findings_are_just()
@@ -141,4 +142,11 @@ pub fn walks_find()
     ensures due { WalkFindsDue }
     ensures not_due { WalkFindsNotDue }
     ensures elapsed { WalkFindsElapsed }
+{}
+
+/// A window of a file, what begins at a bit time or later, is a file too, of a monitor that began then: so what is proved of files is true of
+/// each window of them.
+pub fn windows_are_files()
+    ensures file { WindowIsFile }
+    ensures told { WindowIsTold }
 {}
