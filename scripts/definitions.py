@@ -193,10 +193,42 @@ def words_of(text, here, definition=None):
 
 
 @functools.cache
+def named_items(crate):
+    """The types of a crate's source files by their names."""
+    found = {}
+    for path in sorted((CRATES / crate / "src").rglob("*.rt")):
+        lines = path.read_text().split("\n")
+        for at, line in enumerate(lines):
+            begins = re.match(r"pub(?:\(crate\))? (?:struct|enum|type|union) (\w+)\b", line)
+            if begins:
+                found.setdefault(begins[1], []).append(whole_item(path, begins[1], lines, at))
+    return found
+
+
+def types_in(definition):
+    """The types of this repository that stand in a type of a source file: those of its file, of its crate, or of a crate that it uses."""
+    source, crate = definition.path.read_text(), definition.path.relative_to(CRATES).parts[0]
+    used = {}
+    for path, names in re.findall(r"^use ([\w:]+)::(?:\{([^}]*)\}|(?=\w+;))", source, re.M):
+        for name in filter(None, (name.strip() for name in names.split(","))):
+            used[name] = path
+    for path, name in re.findall(r"^use ([\w:]+)::(\w+);", source, re.M):
+        used[name] = path
+    for word in dict.fromkeys(re.findall(r"\b[A-Z]\w*", re.sub(r"//.*", "", "\n".join(definition.lines)))):
+        home = used.get(word, "crate").split("::")[0]
+        home = crate if home in ("crate", "super", "self") else home
+        if (CRATES / home).is_dir():
+            items = named_items(home).get(word, [])
+            own = [it for it in items if it.path == definition.path] or items
+            if len(own) == 1 and own[0].lines != definition.lines:
+                yield item(home, str(own[0].path.relative_to(CRATES / home / "src").with_suffix("")), word) or own[0]
+
+
+@functools.cache
 def reached_at_once(definition, keeps=None):
-    """What a definition names, in all its equations or in those that are kept."""
+    """What a definition names, in all its equations or in those that are kept; of a type of a source file, the types that stand in it."""
     if definition.path.suffix == ".rt":
-        return []
+        return list(dict.fromkeys(types_in(definition)))
     here = module(definition.path)
     kept = [text for text in equations(definition.lines) if keeps is None or keeps(definition, text)]
     found = [word for text in kept for word in words_of(text, here, definition)]
