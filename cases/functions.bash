@@ -145,7 +145,8 @@ ignored() {
   printf '%b' "$1" >>followed
   for words in svg 'svg 0 150' cycles 'cycles 0 150'; do
     behind_trace idle_listener.table on_cable.trace $words >.alone || return
-    behind_trace idle_listener.table followed $words | cmp -s - .alone && same=$((same + 1))
+    behind_trace idle_listener.table followed $words >.followed || return
+    cmp -s .followed .alone && same=$((same + 1))
   done
   echo "$same of 4 pictures are that of the trace alone"
 }
@@ -179,9 +180,11 @@ launch_anew() {
   rm -rf tree/out
   NOTHING_KEPT=1 launch "$@"
 }
-# Each command of a transcript, run where copies of the examples are, and all that it writes.
+# Each command of a transcript, run where copies of the examples are, and all that it writes; their statuses are left in .statuses.
 transcript() {
   rm -rf .told && mkdir .told && cp ./*.table ./*.messages ./*.cable ./*.trace .told
-  (cd .told && grep '^\$ ' "../$1" | while read -r _ command; do printf '$ %s\n' "$command" && eval "$command"; done)
-  :
+  (cd .told && grep '^\$ ' "../$1" | while read -r _ command; do
+    printf '$ %s\n' "$command" && eval "$command"
+    echo $? >&3
+  done) 3>.statuses
 }
