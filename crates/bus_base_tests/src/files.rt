@@ -34,7 +34,7 @@ fn bytes_at_hand_are_taken_as_those_of_a_pull_are(rt: HostRuntime) -> Result<(),
 const FAILING_ONCE: [Pull; 4] = [Pull::Got(2), Pull::Failed, Pull::Got(2), Pull::End];
 
 #[test]
-fn a_read_that_fails_once_is_one_fault(rt: HostRuntime) -> Result<(), Fail> {
+fn a_read_that_fails_once_is_tried_again(rt: HostRuntime) -> Result<(), Fail> {
     let files = FailingFiles;
     let mut file = FileSource::new(&files, Some(String::from_str(rt.alloc(), "any")?));
     let mut buf = [0u8; 8];

@@ -262,7 +262,7 @@ fn has_advices(alloc: Global, row: &Row) -> Result<bool, Fail> {
 }
 
 #[test]
-fn a_refused_table_has_its_advices(rt: HostRuntime) -> Result<(), Fail> {
+fn tables_have_their_advices(rt: HostRuntime) -> Result<(), Fail> {
     for (k, row) in ROWS.iter().enumerate() {
         assert!(rt; has_advices(rt.alloc(), row)?, "row {k}");
     }

@@ -10,20 +10,20 @@ use std::alloc::{AllocError, Global};
 use std::process::Abort;
 use std::test::Fail;
 
-/// Terminal 7 sends two wordstrings, of two and of three words.
+/// Terminal 128 sends two wordstrings, of two and of three words.
 const TABLE: &[u8] = b"TABLE 1
 MODE aperiodic
 TI 1000
 SG 300
-SENDER 7 TG 20
+SENDER 128 TG 20
 SEND 0A1 1 1 1
 SEND 0A2 1 2 2
 ";
 
 /// Twice: its pulses are 40 and 60 bit times long.
 const TWO_MESSAGES: &[u8] = b"MESSAGES 1
-MSG 7 : 0000 : 0000 0000
-MSG 7 : 0000 : 0000 0000
+MSG 128 : 0000 : 0000 0000
+MSG 128 : 0000 : 0000 0000
 ";
 
 const TIMING: Timing = Timing {
@@ -69,7 +69,7 @@ fn starts(
 #[test]
 fn a_terminal_alone_sends_its_messages(rt: HostRuntime) -> Result<(), Fail> {
     let mut terminal = Terminal::new(CounterCore::settled(TIMING), hand(rt.alloc())?);
-    assert!(rt; terminal.number() == 7);
+    assert!(rt; terminal.number() == 128);
     let other = hand(rt.alloc())?;
     let [sent, _] = other.messages.as_slice() else {
         return Err("two messages".into());
@@ -128,6 +128,6 @@ fn a_terminal_shows_its_messages(rt: HostRuntime) -> Result<(), Fail> {
     let hand = hand(rt.alloc())?;
     assert!(rt; hand.messages.len() == 2);
     let terminal = Terminal::new(CounterCore::settled(TIMING), hand);
-    assert!(rt; (terminal.number(), bits(terminal.message(0))) == (7, 104));
+    assert!(rt; (terminal.number(), bits(terminal.message(0))) == (128, 104));
     Ok(())
 }

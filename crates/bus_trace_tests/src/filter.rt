@@ -172,7 +172,7 @@ fn received(
 }
 
 #[test]
-fn words_of_others_are_received(rt: HostRuntime) -> Result<(), Fail> {
+fn received_words_are_those_of_the_lines(rt: HostRuntime) -> Result<(), Fail> {
     for (k, row) in ROWS.iter().enumerate() {
         let (lines, failed, bytes) = received(rt.alloc(), row.table, row.sent, &[])?;
         assert!(rt; lines == row.lines && !failed, "row {k}");

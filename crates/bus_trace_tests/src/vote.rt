@@ -171,7 +171,7 @@ fn has_votes(alloc: Global, row: &Row) -> Result<bool, Fail> {
 }
 
 #[test]
-fn a_word_is_that_of_two(rt: HostRuntime) -> Result<(), Fail> {
+fn votes_are_written_of_lists(rt: HostRuntime) -> Result<(), Fail> {
     for (k, row) in ROWS.iter().enumerate() {
         assert!(rt; has_votes(rt.alloc(), row)?, "row {k}");
     }
