@@ -9,6 +9,7 @@ use Rattle.bus_findings.specs.Silences.{silence_of}
 use Rattle.bus_findings.specs.Terminals.{once}
 use Rattle.bus_findings.specs.Texts.{silence_lines, silent_lines}
 use Rattle.bus_findings.proofs.TraceLemmas.{count_next, lines_next}
+use Rattle.std.proofs.lemmas.Grind.{common_steps}
 use Rattle.bus_findings.proofs.writing.put_silences.Goals as goal
 
 pub silence-due-requires-clause-watch : goal.silence-due-requires-clause-watch
@@ -45,3 +46,9 @@ loop-k-preserved g c =
       count = omega (arith, one, c.loop-k.invariant.count, count_next f senders k s at);
       few = omega (arith, c.loop-k.invariant.few, c.once-silent.ensures.most);
     }
+
+pub returns-clause-adds : goal.returns-clause-adds
+returns-clause-adds g c = grind (arith, common_steps)
+
+pub returns-clause-count : goal.returns-clause-count
+returns-clause-count g c = grind (arith, common_steps)

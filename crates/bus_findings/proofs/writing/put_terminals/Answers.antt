@@ -6,6 +6,7 @@ use Rattle.bus_outer.proofs.TextLaws.{adds_then}
 use Rattle.bus_findings.specs.declared.watch.Watch.{Watch}
 use Rattle.bus_findings.specs.Texts.{terminal_line}
 use Rattle.bus_findings.proofs.TraceLemmas.{lines_next, terminal_same}
+use Rattle.std.proofs.lemmas.Grind.{common_steps}
 use Rattle.bus_findings.proofs.writing.put_terminals.Goals as goal
 
 pub loop-k-preserved : goal.loop-k-preserved
@@ -26,3 +27,6 @@ loop-k-preserved g c =
     let put = subst (λ b. Adds g.K.Sink.held g.K.Sink.faults c.loop-k.sink c.put_terminal.new.sink c.loop-k.text c.put_terminal.new.text b) lines c.put_terminal.ensures in
     subst (λ b. Adds g.K.Sink.held g.K.Sink.faults c.args.sink.now c.put_terminal.new.sink c.args.text.now c.put_terminal.new.text b)
     (sym (lines_next (terminal_line bounds table list) senders k s at)) (adds_then c.loop-k.invariant put)
+
+pub returns : goal.returns
+returns g c = grind (arith, common_steps)

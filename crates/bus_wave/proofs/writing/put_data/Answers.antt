@@ -4,3 +4,6 @@ use Rattle.bus_wave.proofs.writing.put_data.Goals as goal
 
 pub loop-word-preserved : goal.loop-word-preserved
 loop-word-preserved g c = grind (arith, common_steps)
+
+pub returns : goal.returns
+returns g c = grind (arith, common_steps)

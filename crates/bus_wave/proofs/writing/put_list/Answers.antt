@@ -1,4 +1,4 @@
-use Rattle.std.proofs.Common.{◌≡◌, ◌+◌, ◌++◌, ◌∷◌, [], List, ℕ, subst, take, ap, sym, ◌∙◌}
+use Rattle.std.proofs.Common.{◌≡◌, ◌+◌, ◌++◌, ◌∷◌, [], List, ℕ, subst, take, ap, sym, ◌∙◌, arith}
 use Rattle.std.proofs.lemmas.List.{take_more}
 use Rattle.bus_outer.specs.Texts.{Adds}
 use Rattle.bus_outer.proofs.TextLaws.{◌▸◌}
@@ -6,6 +6,7 @@ use Rattle.bus_strings.specs.Messages.{Entry}
 use Rattle.bus_wave.specs.inside.Puts.{list_put, entry_put}
 use Rattle.bus_wave.specs.WaveTexts.{last_end}
 use Rattle.bus_wave.proofs.WriteTexts.{list_push, last_end_push}
+use Rattle.std.proofs.lemmas.Grind.{common_steps}
 use Rattle.bus_wave.proofs.writing.put_list.Goals as goal
 
 pub loop-entry-preserved : goal.loop-entry-preserved
@@ -22,3 +23,9 @@ loop-entry-preserved g c =
           (c.loop-entry.invariant.puts ▸ c.put_entry.ensures);
       end = c.end-end.ensures.value ∙ sym (last_end_push 0 before x) ∙ ap (last_end 0) (sym more);
     }
+
+pub returns-clause-end : goal.returns-clause-end
+returns-clause-end g c = grind (arith, common_steps)
+
+pub returns-clause-puts : goal.returns-clause-puts
+returns-clause-puts g c = grind (arith, common_steps)
