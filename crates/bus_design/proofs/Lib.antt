@@ -5,3 +5,4 @@ pub mod Levels
 pub mod Designs
 pub mod Plans
 mod Made
+mod Ages

@@ -226,6 +226,7 @@ made_best bounds table design within valid mode best =
     let cycle = best.cycle made another refl in
     record {
       parts = ap (made_table table design.sg) (sym own);
+      another = subst (IsAnother table made) (sym own) another;
       any = best.any made another refl refl;
       best = λ other others is any. (let l = best.best other others is any in omega (arith, l, cycle));
       last = λ other others is any same. best.last other others is any (same ∙ cycle);

@@ -59,14 +59,16 @@ abbrev pub AreNoneFor : Bounds → Table → Type 0
 AreNoneFor bounds table = (other : Table) (gaps : List ℕ) → IsAnother table other gaps → level_of bounds other ≡ Any → ⊥
 
 -- The made table:
---   parts  its senders are the given ones in turn order with other terminal gaps, its listeners the given ones, its transmit interval
---          the least;
---   any    it has level `Any`;
---   best   no table of the same senders in the same order with this level has a lesser longest cycle,
---   last   nor, with the same longest cycle, a greater synchronization gap,
---   least  nor, with the same synchronization gap, a lesser terminal gap.
+--   parts    its senders are the given ones in turn order with other terminal gaps, its listeners the given ones, its transmit interval
+--            the least;
+--   another  so it is a valid table of these senders in the same turn order;
+--   any      it has level `Any`;
+--   best     no table of the same senders in the same order with this level has a lesser longest cycle,
+--   last     nor, with the same longest cycle, a greater synchronization gap,
+--   least    nor, with the same synchronization gap, a lesser terminal gap.
 pub record IsMade (bounds : Bounds) (table made : Table) : Type 0 where
   pub parts : made ≡ made_table table made.sg (gaps_of made)
+  pub another : IsAnother table made (gaps_of made)
   pub any : level_of bounds made ≡ Any
   pub best : (other : Table) (gaps : List ℕ) → IsAnother table other gaps → level_of bounds other ≡ Any
       → most_apart bounds made ≤ most_apart bounds other
