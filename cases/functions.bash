@@ -188,3 +188,11 @@ transcript() {
     echo $? >&3
   done) 3>.statuses
 }
+# two_words HORIZON MOMENT,TERMINAL ..: what is recorded of terminals 1 and 2 whose messages have a label word and a data word.
+two_words() {
+  printf '%s\n' 'TRACE 1' "HORIZON $1"
+  for start in "${@:2}"; do
+    printf 'TX %s %s\nWS L00%s00 D00001\n' "${start%,*}" "${start#*,}" "${start#*,}"
+  done
+  echo END
+}
