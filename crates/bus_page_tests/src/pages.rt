@@ -25,7 +25,7 @@ SEND 007 1 10 20
 ";
 
 const PERIODIC: &[u8] =
-    b"# The same five terminals in periodic mode: docs/BUS.md plans it, step by step.
+    b"# The same five terminals in periodic mode: docs/PLAN.md says what it bears on one clock, and what it doesn't on real ones.
 TABLE 1
 MODE periodic
 TI 4000
