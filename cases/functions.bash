@@ -188,3 +188,37 @@ transcript() {
     echo $? >&3
   done) 3>.statuses
 }
+# two_words HORIZON MOMENT,TERMINAL ..: what is recorded of terminals 1 and 2 whose messages have a label word and a data word.
+two_words() {
+  printf '%s\n' 'TRACE 1' "HORIZON $1"
+  for start in "${@:2}"; do
+    printf 'TX %s %s\nWS L00%s00 D00001\n' "${start%,*}" "${start#*,}" "${start#*,}"
+  done
+  echo END
+}
+
+# ---- five periodic terminals in another order, or with lengths that vary less
+
+# in_order TERMINAL ..: their table, planned for a delay of 5, with offsets in this order.
+in_order() {
+  awk -v order="$*" 'BEGIN { n = split(order, place); for (i = 1; i <= n; i++) at[place[i]] = i } /^SENDER/ { $6 = at[$2] } { print }' \
+    five_terminals_periodic.table >.ordered
+  bus629 plan .ordered 5
+}
+# rooms_of_intervals TI ..: what margins of them tells at these intervals.
+rooms_of_intervals() {
+  local ti
+  in_order 1 2 3 4 5 >/dev/null
+  for ti in "$@"; do
+    bus629 plan <(sed "s/TI 4000/TI $ti/" .ordered) 5 >.planned
+    echo "TI $ti" $(bus629 margins .planned 1000 125 100 | awk '/ sync| order| begin/ { print $2, $NF }')
+  done
+}
+# rooms_of_order TERMINAL ..: the level and the room of order where terminal 3 has 4, 9 or 10 words at least.
+rooms_of_order() {
+  local least
+  for least in 4 9 10; do
+    in_order "$@" | sed "s/103 1 4 12/103 1 $least 12/" >.padded
+    echo "$*: $least" $(bus629 margins .padded 1000 125 100 | awk '/^MARGINS/ { print $3 } / order/ { print $NF }')
+  done
+}

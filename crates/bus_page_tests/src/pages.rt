@@ -25,7 +25,7 @@ SEND 007 1 10 20
 ";
 
 const PERIODIC: &[u8] =
-    b"# The same five terminals in periodic mode: docs/BUS.md plans it, step by step.
+    b"# The same five terminals in periodic mode: docs/PLAN.md says what it bears on one clock, and what it doesn't on real ones.
 TABLE 1
 MODE periodic
 TI 4000
@@ -111,7 +111,7 @@ fn an_accepted_periodic_table(rt: HostRuntime) -> Result<(), Fail> {
             b"to its next one, at most 4000 bit times (2000 \xc2\xb5s). The second",
             b"each as long as it may be; the rest is gaps.\nThe tolerance is 5 bit times (2.5 \xc2\xb5s): ",
             b"<dt>level, within 0 ns of delay, 0 ns of jitter, and clocks 50 millionths off</dt><dd>none: nothing is told</dd>",
-            b"DDD39E1F",
+            b"0C5C2057",
         ],
     )
 }
