@@ -1,0 +1,5 @@
+-- The lemmas of this crate.
+mod Members
+mod Takes
+mod Strings
+mod Feeding
