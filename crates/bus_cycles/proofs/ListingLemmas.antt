@@ -6,13 +6,13 @@ use Rattle.std.proofs.lemmas.Bool.{and_parts, lt-ltb, ne_eqb, true≢false}
 use Rattle.bus_strings.specs.Members.{In}
 use Rattle.bus_strings.proofs.TestLaws.{or_false}
 use Rattle.bus_table.specs.Tables.{Sender}
-use Rattle.bus_shapes.specs.Classes.{class_name}
-use Rattle.bus_shapes.specs.declared.area.Area.{Area}
-use Rattle.bus_shapes.specs.declared.class.Class.{Class}
-use Rattle.bus_shapes.specs.declared.class.Class.TheVariants.{Breach, Fault, Garbled, Other, Tick, Unobserved}
+use Rattle.bus_pen.specs.Classes.{class_name}
+use Rattle.bus_pen.specs.declared.area.Area.{Area}
+use Rattle.bus_pen.specs.declared.class.Class.{Class}
+use Rattle.bus_pen.specs.declared.class.Class.TheVariants.{Breach, Fault, Garbled, Other, Tick, Unobserved}
 use Rattle.bus_shapes.specs.declared.sent.Sent.{Sent}
 use Rattle.bus_shapes.specs.declared.told.Told.TheVariants.{Audit, OnCable, Findings}
-use Rattle.bus_shapes.specs.Shapes.{box_text}
+use Rattle.bus_pen.specs.Shapes.{box_text}
 use Rattle.bus_cycles.specs.Cuts.{Seen, is_whole, seen_of}
 use Rattle.bus_cycles.specs.CyclesTexts.{begins, breach_at, breach_in_row, breach_text, page_in, survey_in}
 use Rattle.bus_cycles.specs.Dues.{due_line, due_over, due_text, rows_of_due}
