@@ -8,8 +8,8 @@ abbrev pub allows : Bool → Bool → Bool
 allows given taken = not given || taken
 
 -- Each that was given is taken.
-abbrev pub are_among : Options → OptionSet → Bool
-are_among options set =
+abbrev pub takes : OptionSet → Options → Bool
+takes set options =
     allows (is_some options.delay) set.delay
     && (allows (is_some options.jitter || is_some options.clocks) set.exactness
     && (allows (is_some options.from || is_some options.to) set.window

@@ -26,13 +26,11 @@ pub enum PastLimit {
     Clocks,
 }
 
-impl Options {
-    /// Whether a bound is given.
-    pub fn has_bounds(&self) -> bool
-        ensures { result ≡ bounding.has_bounds self.now }
-    {
-        self.delay.is_some() || self.jitter.is_some() || self.clocks.is_some()
-    }
+/// Whether a bound is given.
+fn has_bounds(options: &Options) -> bool
+    ensures { result ≡ bounding.has_bounds options.now }
+{
+    options.delay.is_some() || options.jitter.is_some() || options.clocks.is_some()
 }
 
 /// Bounds that are within these limits.
@@ -68,7 +66,7 @@ fn within(
 pub fn bounds_of(options: &Options) -> Result<Option<Bounds>, PastLimit>
     ensures { result ≡ bounding.bounds_of options.now }
 {
-    if !options.has_bounds() {
+    if !has_bounds(options) {
         return Ok(None);
     }
     let delay = options.delay.unwrap_or(0);
@@ -92,7 +90,7 @@ pub fn near_bounds_of(options: &Options) -> Result<Option<Bounds>, PastLimit>
     ensures value { result ≡ bounding.near_bounds_of options.now }
     ensures limit { IfOk result (λ given. IfSome given (λ bounds. bounds.delay ≤ most_near_delay)) }
 {
-    if !options.has_bounds() {
+    if !has_bounds(options) {
         return Ok(None);
     }
     let delay = bits_up(options.delay.unwrap_or(0));

@@ -21,6 +21,13 @@ pub struct OptionSet {
     pub json: bool,
 }
 
+/// Whether an option isn't given, or is taken.
+fn allows(given: bool, taken: bool) -> bool
+    ensures { result ≡ definition.allows given taken }
+{
+    !given || taken
+}
+
 impl OptionSet {
     /// No option.
     pub const NONE: OptionSet = OptionSet {
@@ -79,28 +86,19 @@ impl OptionSet {
         json: true,
         ..OptionSet::BOUNDS
     };
-}
 
-/// Whether an option isn't given, or is taken.
-fn allows(given: bool, taken: bool) -> bool
-    ensures { result ≡ definition.allows given taken }
-{
-    !given || taken
-}
-
-impl Options {
-    /// Whether a command that takes these options takes each that was given.
-    pub fn are_among(&self, set: OptionSet) -> bool
-        ensures { result ≡ definition.are_among self.now set }
+    /// Whether each option that was given is one of these.
+    pub fn takes(self, options: &Options) -> bool
+        ensures { result ≡ definition.takes self options.now }
     {
-        let exactness = self.jitter.is_some() || self.clocks.is_some();
-        let window = self.from.is_some() || self.to.is_some();
-        let design = self.free_order || self.aged;
-        allows(self.delay.is_some(), set.delay)
-            && allows(exactness, set.exactness)
-            && allows(window, set.window)
-            && allows(design, set.design)
-            && allows(self.unit.is_some(), set.unit)
-            && allows(self.json, set.json)
+        let exactness = options.jitter.is_some() || options.clocks.is_some();
+        let window = options.from.is_some() || options.to.is_some();
+        let design = options.free_order || options.aged;
+        allows(options.delay.is_some(), self.delay)
+            && allows(exactness, self.exactness)
+            && allows(window, self.window)
+            && allows(design, self.design)
+            && allows(options.unit.is_some(), self.unit)
+            && allows(options.json, self.json)
     }
 }
