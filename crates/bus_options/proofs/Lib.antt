@@ -1,0 +1,4 @@
+-- The lemmas of this crate.
+mod PlaceLemmas
+mod ReadLemmas
+mod AgeLemmas
