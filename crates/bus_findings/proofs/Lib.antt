@@ -22,3 +22,4 @@ pub mod MeaningLemmas
 mod FrontLists
 mod FrontLemmas
 mod WindowLemmas
+mod GrownLemmas

@@ -174,3 +174,7 @@ pub start_before : (list : List Entry) (place i : ℕ) (o x : Entry) → IsAscen
 start_before list place i o x up there less at same =
     own_moments_ascend o x (before_it list i x o up at
     (subst (λ l. In o l) (sym (take_split list place i o there less)) (in_append_right (take place list) (o ∷ slice_range list (place + 1) i) o (inl refl)))) same
+
+-- one place has one element
+pub same_at : {X : Type 0} (xs : List X) (i : ℕ) (x y : X) → slice_get xs i ≡ Some x → slice_get xs i ≡ Some y → x ≡ y
+same_at xs i x y a b = let e : Some x ≡ Some y = sym a ∙ b in cc

@@ -10,6 +10,7 @@ pub mod Texts
 pub mod Files
 pub mod Laws
 pub mod Fronts
+pub mod Growing
 pub mod Windows
 pub mod Meanings
 pub mod inside

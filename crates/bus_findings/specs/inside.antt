@@ -4,3 +4,4 @@ pub mod Standing
 pub mod Counting
 pub mod Walked
 pub mod Sound
+pub mod Grown

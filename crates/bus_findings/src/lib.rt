@@ -3,6 +3,7 @@
 //! [`write_findings`] goes over a trace once, as a recording by a monitor on a bus within [`Bounds`](bus_bounds::Bounds), here in bit
 //! times, and writes what can't have been: starts that are too early or too late by a timer, whatever the delays were and whatever the
 //! other terminals did. [`Judgement`] is what is found at one transmission, and [`judgements`] lists it of each, for those who draw them.
+//! [`Live`] is a recording that grows, for those who want to know what is found at a transmission as soon as it has come.
 //!
 //! The definitions are in `specs/`: `Recorded` (a trace and a table in the words of `bus_recording`), `Lacks` and `Dues` (by how much a
 //! start is too early, and when a terminal was due), `Judging`, `Silences` and `Terminals` (what is found), and `Texts`. [`laws`] ties
@@ -25,6 +26,8 @@
 //!   find nothing due (`specs/inside/Calm`, `proofs/PlainLemmas`).
 //! - `specs/inside/Sound` is why the walk may begin at the last start: a transmission that began before it, and is heard 2 D late, has been
 //!   heard out before the sender's own message ends, as long as 2 D is less than a word.
+//! - `src/live` is the same walk over a list that grows: what is kept of the transmissions so far stays that of them where one more comes
+//!   behind (`proofs/GrownLemmas`), since nothing that is found at one depends on those behind it. `specs/Growing` says what is answered.
 //! - `specs/Laws` says in the words of bus_recording what a line means; from its law that findings are just follows that there is no false
 //!   alarm.
 #![tactic(auto)]
@@ -40,6 +43,7 @@ pub mod laws;
 mod lengths;
 mod lines;
 mod listing;
+mod live;
 mod numbers;
 mod quiet;
 mod rooms;
@@ -52,6 +56,8 @@ mod writing;
 
 pub use fault_words::{is_faulty, put_fault_title, put_fault_words};
 pub use judgement::{Due, Judgement, Late, Timer};
+pub use lines::put_timer;
 pub use listing::{fault_sum, judgements};
+pub use live::Live;
 pub use within::put_within;
 pub use writing::write_findings;

@@ -7,7 +7,7 @@ use crate::judgement::{Due, Judgement, Late, Timer};
 use bus_outer::{Sink, TextBuffer};
 
 /// Puts the word of a timer.
-fn put_timer<K: Sink>(text: &mut TextBuffer, sink: &mut K, timer: Timer)
+pub fn put_timer<K: Sink>(text: &mut TextBuffer, sink: &mut K, timer: Timer)
     ensures { Adds K.held K.faults sink.old sink.new text.old text.new (texts.timer_word timer) }
 {
     match timer {

@@ -1,0 +1,3 @@
+-- Words of private contracts and of proofs.
+pub mod Pieces
+pub mod Joining
