@@ -36,7 +36,7 @@ with_lasting bounds (a ∷ senders) (x ∷ gaps) n h b (inl e) =
 with_lasting bounds (a ∷ senders) (x ∷ gaps) n h b (inr i) =
     with_lasting bounds senders gaps (let m : suc (length gaps) ≡ suc (length senders) = n in omega (arith, m)) (λ c j. h c (inr j)) b i
 
-lasts_too : (bounds : Bounds) (table other : Table) (gaps : List ℕ) → IsAnother table other gaps → lasts bounds table ≡ true → lasts bounds other ≡ true
+pub lasts_too : (bounds : Bounds) (table other : Table) (gaps : List ℕ) → IsAnother table other gaps → lasts bounds table ≡ true → lasts bounds other ≡ true
 lasts_too bounds table other gaps is h =
     let all : AreLasting bounds (turn_order table) =
     λ a i. lasting_told bounds table.senders h a (from_sort (turn_key table.mode) table.senders a i) in

@@ -4,5 +4,5 @@ pub mod Orders
 pub mod Levels
 pub mod Designs
 pub mod Plans
-mod Made
-mod Ages
+pub mod Made
+pub mod Ages

@@ -198,7 +198,7 @@ made_is_valid bounds table sg gaps within valid mode roomy =
     (taken_many bounds sg _ _ (speakers_of table) gaps roomy.taken ∙ length-map (turn_order table) speaker_of)
 
 -- ---- the made table is the best
-gaps_made : (order : List Sender) (gaps : List ℕ) → length gaps ≡ length order → map (λ (s : Sender). s.tg) (with_gaps order gaps) ≡ gaps
+pub gaps_made : (order : List Sender) (gaps : List ℕ) → length gaps ≡ length order → map (λ (s : Sender). s.tg) (with_gaps order gaps) ≡ gaps
 gaps_made [] [] n = refl
 gaps_made [] (x ∷ gaps) n = absurd (let m : length (x ∷ gaps) ≡ 0 = n in cc)
 gaps_made (s ∷ order) [] n = absurd (let m : 0 ≡ length (s ∷ order) = n in cc)

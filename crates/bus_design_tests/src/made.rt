@@ -1,13 +1,13 @@
 //! Tables that are made of worked ones: the numbers are those of a program of another language that tries every gap.
 use bus_bounds::Bounds;
-use bus_design::design_any;
+use bus_made::{design, write_design};
 use bus_outer::MemorySink;
-use bus_table::{Mode, read_table, write_table};
+use bus_table::{Mode, read_table};
 use std::alloc::Global;
 use std::process::Abort;
 use std::test::Fail;
 
-/// What is asked, and the made table, or nothing where there is none.
+/// What is asked, and the made table, or what is to blame.
 struct Row {
     name: &'static str,
     table: &'static [u8],
@@ -17,7 +17,7 @@ struct Row {
     made: &'static [u8],
 }
 
-const ROWS: [Row; 7] = [
+const ROWS: [Row; 13] = [
     Row {
         name: "five senders on exact clocks",
         table: FIVE,
@@ -111,13 +111,7 @@ SEND 002 0 0 2
     },
     Row {
         name: "a sender that is alone",
-        table: b"TABLE 1
-MODE aperiodic
-TI 5000
-SG 700
-SENDER 1 TG 100
-SEND 001 0 0 0
-",
+        table: ONE,
         delay: 2000,
         jitter: 125,
         clocks: 100,
@@ -135,7 +129,7 @@ SEND 001 0 0 0
         delay: 20000,
         jitter: 125,
         clocks: 100,
-        made: b"",
+        made: b"INFEASIBLE opening 4 287 256\n",
     },
     Row {
         name: "messages that may last no time",
@@ -143,9 +137,103 @@ SEND 001 0 0 0
         delay: 0,
         jitter: 100000,
         clocks: 0,
-        made: b"",
+        made: b"INFEASIBLE lasts 1 100001 90000\n",
+    },
+    Row {
+        name: "a message that is alone and may last no time",
+        table: ONE,
+        delay: 0,
+        jitter: 12000,
+        clocks: 0,
+        made: b"INFEASIBLE lasts 1 12001 10000\n",
+    },
+    Row {
+        name: "a first gap that is too great",
+        table: TWO,
+        delay: 240000,
+        jitter: 0,
+        clocks: 0,
+        made: b"INFEASIBLE joining 1 480 256\n",
+    },
+    Row {
+        name: "a synchronization gap that is too great",
+        table: TWO,
+        delay: 600000,
+        jitter: 0,
+        clocks: 0,
+        made: b"INFEASIBLE whole - 1205 1024\n",
+    },
+    Row {
+        name: "seven senders that are too far apart",
+        table: SEVEN,
+        delay: 12000,
+        jitter: 125,
+        clocks: 100,
+        made: b"INFEASIBLE opening 6 275 256\n",
+    },
+    Row {
+        name: "gaps that fit, but not together with the synchronization gap for which they wait",
+        table: SEVEN,
+        delay: 9700,
+        jitter: 0,
+        clocks: 500,
+        made: b"INFEASIBLE waiting 7 257 256\n",
+    },
+    Row {
+        name: "seven senders on a cable",
+        table: SEVEN,
+        delay: 2000,
+        jitter: 125,
+        clocks: 100,
+        made: b"TABLE 1
+MODE aperiodic
+TI 1000
+SG 953
+SENDER 1 TG 8
+SEND 101 1 4 10
+SENDER 2 TG 18
+SEND 102 1 2 2
+SENDER 3 TG 28
+SEND 103 1 0 0
+SENDER 4 TG 38
+SEND 104 1 6 12
+SENDER 5 TG 48
+SEND 105 1 1 3
+SENDER 6 TG 58
+SEND 106 1 8 8
+SENDER 7 TG 68
+SEND 107 1 0 4
+",
     },
 ];
+
+const ONE: &[u8] = b"TABLE 1
+MODE aperiodic
+TI 5000
+SG 700
+SENDER 1 TG 100
+SEND 001 0 0 0
+";
+
+const SEVEN: &[u8] = b"TABLE 1
+MODE aperiodic
+TI 1000
+SG 400
+SENDER 1 TG 10
+SEND 101 1 4 10
+SENDER 2 TG 20
+SEND 102 1 2 2
+SENDER 3 TG 30
+SEND 103 1 0 0
+SENDER 4 TG 40
+SEND 104 1 6 12
+SENDER 5 TG 50
+SEND 105 1 1 3
+SENDER 6 TG 60
+SEND 106 1 8 8
+SENDER 7 TG 70
+SEND 107 1 0 4
+";
 
 const FIVE: &[u8] = b"TABLE 1
 MODE aperiodic
@@ -186,9 +274,8 @@ fn is_made(rt: &impl Abort, alloc: Global, row: &Row) -> Result<(), Fail> {
         return Err(Fail::new("a periodic table"));
     };
     let mut sink = MemorySink::new(alloc, 1000, 1000, Vec::new(alloc))?;
-    if let Some(made) = design_any(alloc, &table, bounds)? {
-        assert!(rt; write_table(&made, &mut sink).is_ok());
-    }
+    let answer = design(alloc, &table, bounds)?;
+    assert!(rt; write_design(&table, &answer, &mut sink).is_ok());
     assert!(rt; sink.bytes() == row.made, "{}", row.name);
     Ok(())
 }

@@ -21,7 +21,7 @@ spoken_more bounds delay (a ∷ senders) (x ∷ gaps) (y ∷ others) within h =
     let rest = spoken_more bounds delay senders gaps others within h.1 in
     omega (arith, first, rest)
 
-cycle_more : (bounds : Bounds) (senders : List Speaker) (sg : ℕ) (gaps others : List ℕ) → bounds.clocks ≤ most_clocks → AreAtMost gaps others
+pub cycle_more : (bounds : Bounds) (senders : List Speaker) (sg : ℕ) (gaps others : List ℕ) → bounds.clocks ≤ most_clocks → AreAtMost gaps others
     → cycle_of bounds senders sg gaps ≤ cycle_of bounds senders sg others
 cycle_more bounds senders sg gaps others within h =
     let rest = spoken_more bounds (delay_among bounds (length senders)) senders gaps others within h in omega (arith, rest)
