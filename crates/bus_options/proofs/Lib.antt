@@ -2,3 +2,4 @@
 mod PlaceLemmas
 mod ReadLemmas
 mod AgeLemmas
+pub mod PlainLaws

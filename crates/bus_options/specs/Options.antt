@@ -1,8 +1,8 @@
 -- The options of a command line: what its words write, read from the first option to the last word. A word is its bytes.
 --   line_of    how many words stand before the first option, and the options; or the first word that is refused, and why
-use Rattle.std.specs.Prelude.{ℕ, ◌+◌, ◌-◌, Bool, true, false, nat_eq, codes, List, [], ◌∷◌, length, drop, if◌then◌else◌}
+use Rattle.std.specs.Prelude.{◌≡◌, ℕ, ◌+◌, ◌-◌, Bool, true, false, nat_eq, codes, List, [], ◌∷◌, length, drop, if◌then◌else◌}
 use Rattle.std.specs.Prelude.{Option, Some, None, is_some, Result, Ok, Err}
-use Rattle.std.specs.List.{position_or_len, starts_with}
+use Rattle.std.specs.List.{AllByRecursion, position_or_len, starts_with}
 use Rattle.bus_options.specs.Keys.{Key, key_of, is_flag}
 use Rattle.bus_options.specs.Settings.{Setting, Delay, Jitter, Clocks, From, To, FreeOrder, OfAge, Unit, Json}
 use Rattle.bus_options.specs.Settings.{OptionReason, Unknown, Twice, NoValue, HasValue}
@@ -112,6 +112,10 @@ is_option word = starts_with nat_eq word (codes "--")
 -- How many plain words there are: those before the first option.
 abbrev pub plain_count : List (List ℕ) → ℕ
 plain_count words = position_or_len is_option words
+
+-- Each word is a plain one.
+abbrev pub ArePlain : List (List ℕ) → Type 0
+ArePlain words = AllByRecursion (λ word. is_option word ≡ false) words
 
 abbrev pub line_with : ℕ → Result Options OptionError → Result Line OptionError
 line_with plain (Ok options) = Ok (record { plain = plain; options = options })
