@@ -2,13 +2,37 @@
 ghost use Rattle.std.specs.Prelude.{◌≡◌};
 ghost use Rattle.bus_outer.specs.Sinks.{WritesText};
 ghost use Rattle.bus_outer.specs.Texts.{Adds};
+ghost use Rattle.bus_table.specs.declared.mode.Mode.TheVariants.{Aperiodic};
+ghost use Rattle.bus_explain.specs.Beyond as beyond;
 ghost use Rattle.bus_explain.specs.Beyond.{beyond_text, drifting_in, offsets_line};
 
-use crate::wordings::MOST_DELAY;
-use bus_margins_periodic::write_drifting;
+use crate::wordings::{DRIFTING_ANY, DRIFTING_COMMON, DRIFTING_NONE, MOST_DELAY};
+use bus_margins::{Level, level_of};
+use bus_margins_periodic::{drifting, write_drifting};
 use bus_outer::{Sink, TextBuffer, WriteFault};
 use bus_say::say;
 use bus_table::{Mode, Table};
+
+/// What is said of an aperiodic table that has this level where clocks are off.
+fn level_wording(level: Level) -> &'static [u8]
+    ensures { result.now ≡ beyond.level_wording level }
+{
+    match level {
+        Level::Any => DRIFTING_ANY,
+        Level::Common => DRIFTING_COMMON,
+        Level::Neither => DRIFTING_NONE,
+    }
+}
+
+/// Writes what is said of an aperiodic table where clocks are off.
+fn write_level<K: Sink>(table: &Table, out: &mut K) -> Result<(), WriteFault>
+    requires { table.now.mode ≡ Aperiodic }
+    ensures { WritesText K.held K.faults out.old out.new result (drifting_in Aperiodic table.now) }
+{
+    let mut text = TextBuffer::new();
+    say(&mut text, out, level_wording(level_of(table, drifting())), &[]);
+    text.finish(out)
+}
 
 /// Writes what is said of an accepted table of this mode where clocks are off.
 fn write_drift<K: Sink>(mode: Mode, table: &Table, out: &mut K) -> Result<(), WriteFault>
@@ -16,7 +40,7 @@ fn write_drift<K: Sink>(mode: Mode, table: &Table, out: &mut K) -> Result<(), Wr
     ensures { WritesText K.held K.faults out.old out.new result (drifting_in mode table.now) }
 {
     match mode {
-        Mode::Aperiodic => Ok(()),
+        Mode::Aperiodic => write_level(table, out),
         Mode::Periodic => write_drifting(table, out),
     }
 }
