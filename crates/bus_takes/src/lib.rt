@@ -1,0 +1,17 @@
+//! What is odd about the TAKE and SEND lines of a table, in sentences.
+//!
+//! A verdict judges when terminals speak, and not whether anybody takes what is sent: a slip in a label gives a table that is accepted and
+//! a terminal that receives nothing. [`write_takes`] says of each TAKE line that nothing feeds why nothing comes of it; of each that is fed
+//! how many of its words a SEND line never has, and how many only in longer wordstrings; and in one sentence which SEND lines nobody takes.
+//! Of a table in which nothing of this is so it writes nothing. What feeds a TAKE line, and what that means for the received words, is
+//! `bus_feeds`'.
+//!
+//! The definition of the whole text is `takes_text` in `specs/Takes`, its sentences are in `src/wordings.rt`. No call takes memory.
+#![tactic(auto)]
+
+mod lines;
+mod takes;
+mod untaken;
+mod wordings;
+
+pub use takes::write_takes;

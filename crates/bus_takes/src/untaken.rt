@@ -1,0 +1,106 @@
+//! The SEND lines that nobody takes.
+ghost use Rattle.std.specs.Prelude.{◌≡◌, ◌<◌, ◌^◌, not};
+ghost use Rattle.std.specs.List.{count_by, flat_map};
+ghost use Rattle.bus_outer.specs.Texts.{Adds};
+ghost use Rattle.bus_takes.specs.Takes as takes;
+
+use crate::wordings::{IN_ALL, NOBODY_TAKES, UNTAKEN};
+use bus_feeds::is_taken;
+use bus_outer::{Sink, TextBuffer};
+use bus_say::say;
+use bus_table::{SendLine, Sender, Table};
+
+/// How many of these SEND lines of the terminal of this number nobody takes.
+fn untaken_among(table: &Table, number: u8, sends: &[SendLine]) -> usize
+    ensures { result ≡ count_by (λ send. not (is_taken table.now number send)) sends.now }
+{
+    sends
+        .iter()
+        .filter(|send| !is_taken(table, number, send))
+        .count()
+}
+
+/// How many SEND lines of a table nobody takes.
+fn untaken(table: &Table) -> u128
+    ensures { result ≡ takes.untaken table.now }
+{
+    let mut count = 0;
+    for sender in table.senders() {
+        count += untaken_among(table, sender.number(), sender.sends()) as u128;
+    }
+    count
+}
+
+/// How many SEND lines a table has.
+fn all_sends(table: &Table) -> u128
+    ensures { result ≡ takes.all_sends table.now }
+{
+    let mut count = 0;
+    for sender in table.senders() {
+        count += sender.sends().len() as u128;
+    }
+    count
+}
+
+/// Puts a SEND line of the terminal of this number, if nobody takes it.
+fn put_send<K: Sink>(
+    text: &mut TextBuffer,
+    sink: &mut K,
+    table: &Table,
+    number: u8,
+    send: &SendLine,
+)
+    ensures { Adds K.held K.faults sink.old sink.new text.old text.new (takes.send_text table.now number send.now) }
+{
+    if !is_taken(table, number, send) {
+        let numbers = [
+            number as u128,
+            send.label.value() as u128,
+            send.ext.value() as u128,
+        ];
+        say(text, sink, UNTAKEN, &numbers);
+    }
+}
+
+/// Puts those of the terminal of this number that nobody takes.
+fn put_sends<K: Sink>(
+    text: &mut TextBuffer,
+    sink: &mut K,
+    table: &Table,
+    number: u8,
+    sends: &[SendLine],
+)
+    ensures { Adds K.held K.faults sink.old sink.new text.old text.new (flat_map (takes.send_text table.now number) sends.now) }
+{
+    for send in sends {
+        put_send(text, sink, table, number, send);
+    }
+}
+
+/// Puts those of these senders.
+fn put_senders<K: Sink>(text: &mut TextBuffer, sink: &mut K, table: &Table, senders: &[Sender])
+    ensures { Adds K.held K.faults sink.old sink.new text.old text.new (flat_map (takes.sends_text table.now) senders.now) }
+{
+    for sender in senders {
+        put_sends(text, sink, table, sender.number(), sender.sends());
+    }
+}
+
+/// Puts the sentence of the SEND lines that nobody takes, of which there are so many.
+fn put_some<K: Sink>(text: &mut TextBuffer, sink: &mut K, table: &Table, count: u128)
+    ensures { Adds K.held K.faults sink.old sink.new text.old text.new (takes.some_text table.now count) }
+{
+    say(text, sink, NOBODY_TAKES, &[]);
+    put_senders(text, sink, table, table.senders());
+    say(text, sink, IN_ALL, &[count, all_sends(table)]);
+}
+
+/// Puts the sentence of the SEND lines that nobody takes, if there are any.
+pub(crate) fn put_untaken<K: Sink>(text: &mut TextBuffer, sink: &mut K, table: &Table)
+    ensures { Adds K.held K.faults sink.old sink.new text.old text.new (takes.untaken_text table.now) }
+{
+    let count = untaken(table);
+    if count != 0 {
+        put_some(text, sink, table, count);
+    }
+}
