@@ -6,12 +6,17 @@
 //! Of a table in which nothing of this is so it writes nothing. What feeds a TAKE line, and what that means for the received words, is
 //! `bus_feeds`'.
 //!
-//! The definition of the whole text is `takes_text` in `specs/Takes`, its sentences are in `src/wordings.rt`. No call takes memory.
+//! [`put_matrix`] puts who takes words of whom as a table in HTML, for pages.
+//!
+//! The definitions are `takes_text` in `specs/Takes`, whose sentences are in `src/wordings.rt`, and `matrix_text` in `specs/Matrix`. No call
+//! takes memory.
 #![tactic(auto)]
 
 mod lines;
+mod matrix;
 mod takes;
 mod untaken;
 mod wordings;
 
+pub use matrix::put_matrix;
 pub use takes::write_takes;

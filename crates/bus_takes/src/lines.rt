@@ -1,7 +1,7 @@
 //! What is said of one TAKE line, and of it with a SEND line that feeds it.
 ghost use Rattle.bus_outer.specs.Texts.{Adds};
 ghost use Rattle.std.specs.Prelude.{◌≡◌};
-ghost use Rattle.bus_takes.specs.Takes as takes;
+ghost use Rattle.bus_takes.specs.Takes as definition;
 
 use crate::wordings::{ITSELF_SENDS, NEVER_COME, NOBODY_SENDS, SOMETIMES_COME};
 use bus_feeds::{feeds, only_itself_sends, share_of};
@@ -10,18 +10,22 @@ use bus_say::say;
 use bus_table::{SendLine, Table, TakeLine};
 use bus_words::Ext;
 
-/// A TAKE line of a terminal, and the terminal of a SEND line.
+/// A TAKE line and a SEND line of two terminals.
 #[derive(Clone, Copy)]
-pub(crate) struct Pair {
+pub(crate) struct Pair<'a> {
     /// The number of the terminal that takes.
     pub(crate) number: u8,
+    /// Its TAKE line.
+    pub(crate) take: &'a TakeLine,
     /// The number of the one that sends.
     pub(crate) other: u8,
+    /// Its SEND line.
+    pub(crate) send: &'a SendLine,
 }
 
 /// An extension as a number; 16 stands for every extension.
 fn ext_number(ext: Option<Ext>) -> u8
-    ensures { result ≡ takes.ext_number ext }
+    ensures { result ≡ definition.ext_number ext }
 {
     match ext {
         Some(ext) => ext.value(),
@@ -34,13 +38,13 @@ fn put_words<K: Sink>(
     text: &mut TextBuffer,
     sink: &mut K,
     sentence: &[u8],
-    pair: Pair,
-    (take, send): (&TakeLine, &SendLine),
+    pair: Pair<'_>,
     count: u16,
 )
     ensures { Adds K.held K.faults sink.old sink.new text.old text.new
-        (takes.words_text sentence.now pair.number take.now pair.other send.now count) }
+        (definition.words_text sentence.now pair.entry.number pair.entry.take.now pair.entry.other pair.entry.send.now count) }
 {
+    let Pair { take, send, .. } = pair;
     if count != 0 {
         let numbers = [
             pair.number as u128,
@@ -59,39 +63,20 @@ fn put_words<K: Sink>(
 }
 
 /// Puts what is odd about a TAKE line and a SEND line of another terminal that feeds it.
-fn put_share<K: Sink>(
-    text: &mut TextBuffer,
-    sink: &mut K,
-    pair: Pair,
-    take: &TakeLine,
-    send: &SendLine,
-)
-    ensures { Adds K.held K.faults sink.old sink.new text.old text.new (takes.share_text pair.number take.now pair.other send.now) }
+fn put_share<K: Sink>(text: &mut TextBuffer, sink: &mut K, pair: Pair<'_>)
+    ensures { Adds K.held K.faults sink.old sink.new text.old text.new (definition.share_text pair.entry.number pair.entry.take.now pair.entry.other pair.entry.send.now) }
 {
-    let share = share_of(send, take);
-    put_words(text, sink, NEVER_COME, pair, (take, send), share.never);
-    put_words(
-        text,
-        sink,
-        SOMETIMES_COME,
-        pair,
-        (take, send),
-        share.sometimes,
-    );
+    let share = share_of(pair.send, pair.take);
+    put_words(text, sink, NEVER_COME, pair, share.never);
+    put_words(text, sink, SOMETIMES_COME, pair, share.sometimes);
 }
 
 /// Puts what is odd about a TAKE line and any SEND line of another terminal.
-pub(crate) fn put_pair<K: Sink>(
-    text: &mut TextBuffer,
-    sink: &mut K,
-    pair: Pair,
-    take: &TakeLine,
-    send: &SendLine,
-)
-    ensures { Adds K.held K.faults sink.old sink.new text.old text.new (takes.pair_text pair.number take.now pair.other send.now) }
+pub(crate) fn put_pair<K: Sink>(text: &mut TextBuffer, sink: &mut K, pair: Pair<'_>)
+    ensures { Adds K.held K.faults sink.old sink.new text.old text.new (definition.pair_text pair.entry.number pair.entry.take.now pair.entry.other pair.entry.send.now) }
 {
-    if feeds(send, take) {
-        put_share(text, sink, pair, take, send);
+    if feeds(pair.send, pair.take) {
+        put_share(text, sink, pair);
     }
 }
 
@@ -103,7 +88,7 @@ fn put_line<K: Sink>(
     number: u8,
     take: &TakeLine,
 )
-    ensures { Adds K.held K.faults sink.old sink.new text.old text.new (takes.line_text sentence.now number take.now) }
+    ensures { Adds K.held K.faults sink.old sink.new text.old text.new (definition.line_text sentence.now number take.now) }
 {
     let numbers = [
         number as u128,
@@ -123,7 +108,7 @@ pub(crate) fn put_unfed<K: Sink>(
     number: u8,
     take: &TakeLine,
 )
-    ensures { Adds K.held K.faults sink.old sink.new text.old text.new (takes.unfed_text table.now number take.now) }
+    ensures { Adds K.held K.faults sink.old sink.new text.old text.new (definition.unfed_text table.now number take.now) }
 {
     if only_itself_sends(table, number, take) {
         put_line(text, sink, ITSELF_SENDS, number, take);

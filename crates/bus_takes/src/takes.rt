@@ -2,7 +2,7 @@
 ghost use Rattle.std.specs.List.{flat_map};
 ghost use Rattle.bus_outer.specs.Sinks.{WritesText};
 ghost use Rattle.bus_outer.specs.Texts.{Adds};
-ghost use Rattle.bus_takes.specs.Takes as takes;
+ghost use Rattle.bus_takes.specs.Takes as definition;
 
 use crate::lines::{Pair, put_pair, put_unfed};
 use crate::untaken::put_untaken;
@@ -14,14 +14,21 @@ use bus_table::{Listener, SendLine, Sender, Table, TakeLine};
 fn put_pairs<K: Sink>(
     text: &mut TextBuffer,
     sink: &mut K,
-    pair: Pair,
+    number: u8,
+    other: u8,
     take: &TakeLine,
     sends: &[SendLine],
 )
-    ensures { Adds K.held K.faults sink.old sink.new text.old text.new (flat_map (takes.pair_text pair.number take.now pair.other) sends.now) }
+    ensures { Adds K.held K.faults sink.old sink.new text.old text.new (flat_map (definition.pair_text number take.now other) sends.now) }
 {
     for send in sends {
-        put_pair(text, sink, pair, take, send);
+        let pair = Pair {
+            number,
+            take,
+            other,
+            send,
+        };
+        put_pair(text, sink, pair);
     }
 }
 
@@ -33,11 +40,11 @@ fn put_sender<K: Sink>(
     take: &TakeLine,
     sender: &Sender,
 )
-    ensures { Adds K.held K.faults sink.old sink.new text.old text.new (takes.sender_text number take.now sender.now) }
+    ensures { Adds K.held K.faults sink.old sink.new text.old text.new (definition.sender_text number take.now sender.now) }
 {
     let other = sender.number();
     if other != number {
-        put_pairs(text, sink, Pair { number, other }, take, sender.sends());
+        put_pairs(text, sink, number, other, take, sender.sends());
     }
 }
 
@@ -49,7 +56,7 @@ fn put_senders<K: Sink>(
     take: &TakeLine,
     senders: &[Sender],
 )
-    ensures { Adds K.held K.faults sink.old sink.new text.old text.new (flat_map (takes.sender_text number take.now) senders.now) }
+    ensures { Adds K.held K.faults sink.old sink.new text.old text.new (flat_map (definition.sender_text number take.now) senders.now) }
 {
     for sender in senders {
         put_sender(text, sink, number, take, sender);
@@ -64,7 +71,7 @@ fn put_take<K: Sink>(
     number: u8,
     take: &TakeLine,
 )
-    ensures { Adds K.held K.faults sink.old sink.new text.old text.new (takes.take_text table.now number take.now) }
+    ensures { Adds K.held K.faults sink.old sink.new text.old text.new (definition.take_text table.now number take.now) }
 {
     if is_fed(table, number, take) {
         put_senders(text, sink, number, take, table.senders());
@@ -81,7 +88,7 @@ fn put_takes<K: Sink>(
     number: u8,
     takes: &[TakeLine],
 )
-    ensures { Adds K.held K.faults sink.old sink.new text.old text.new (flat_map (takes.take_text table.now number) takes.now) }
+    ensures { Adds K.held K.faults sink.old sink.new text.old text.new (flat_map (definition.take_text table.now number) takes.now) }
 {
     for take in takes {
         put_take(text, sink, table, number, take);
@@ -90,7 +97,7 @@ fn put_takes<K: Sink>(
 
 /// Puts what is odd about the TAKE lines of senders.
 fn put_of_senders<K: Sink>(text: &mut TextBuffer, sink: &mut K, table: &Table, senders: &[Sender])
-    ensures { Adds K.held K.faults sink.old sink.new text.old text.new (flat_map (takes.of_sender table.now) senders.now) }
+    ensures { Adds K.held K.faults sink.old sink.new text.old text.new (flat_map (definition.of_sender table.now) senders.now) }
 {
     for sender in senders {
         put_takes(text, sink, table, sender.number(), sender.takes());
@@ -104,7 +111,7 @@ fn put_of_listeners<K: Sink>(
     table: &Table,
     listeners: &[Listener],
 )
-    ensures { Adds K.held K.faults sink.old sink.new text.old text.new (flat_map (takes.of_listener table.now) listeners.now) }
+    ensures { Adds K.held K.faults sink.old sink.new text.old text.new (flat_map (definition.of_listener table.now) listeners.now) }
 {
     for listener in listeners {
         put_takes(text, sink, table, listener.number(), listener.takes());
@@ -113,7 +120,7 @@ fn put_of_listeners<K: Sink>(
 
 /// Puts all that is odd about the lines of a table.
 fn put_all<K: Sink>(text: &mut TextBuffer, sink: &mut K, table: &Table)
-    ensures { Adds K.held K.faults sink.old sink.new text.old text.new (takes.takes_text table.now) }
+    ensures { Adds K.held K.faults sink.old sink.new text.old text.new (definition.takes_text table.now) }
 {
     put_of_senders(text, sink, table, table.senders());
     put_of_listeners(text, sink, table, table.listeners());
@@ -122,7 +129,7 @@ fn put_all<K: Sink>(text: &mut TextBuffer, sink: &mut K, table: &Table)
 
 /// Writes all that is odd about the TAKE and SEND lines of a table: nothing, where nothing is. It takes no memory.
 pub fn write_takes<K: Sink>(table: &Table, out: &mut K) -> Result<(), WriteFault>
-    ensures { WritesText K.held K.faults out.old out.new result (takes.takes_text table.now) }
+    ensures { WritesText K.held K.faults out.old out.new result (definition.takes_text table.now) }
 {
     let mut text = TextBuffer::new();
     put_all(&mut text, out, table);

@@ -1,8 +1,8 @@
 //! The SEND lines that nobody takes.
-ghost use Rattle.std.specs.Prelude.{◌≡◌, ◌<◌, ◌^◌, not};
-ghost use Rattle.std.specs.List.{count_by, flat_map};
+ghost use Rattle.std.specs.Prelude.{◌≡◌};
+ghost use Rattle.std.specs.List.{flat_map};
 ghost use Rattle.bus_outer.specs.Texts.{Adds};
-ghost use Rattle.bus_takes.specs.Takes as takes;
+ghost use Rattle.bus_takes.specs.Takes as definition;
 
 use crate::wordings::{IN_ALL, NOBODY_TAKES, UNTAKEN};
 use bus_feeds::is_taken;
@@ -10,11 +10,13 @@ use bus_outer::{Sink, TextBuffer};
 use bus_say::say;
 use bus_table::{SendLine, Sender, Table};
 
-/// How many of these SEND lines of the terminal of this number nobody takes.
-fn untaken_among(table: &Table, number: u8, sends: &[SendLine]) -> usize
-    ensures { result ≡ count_by (λ send. not (is_taken table.now number send)) sends.now }
+/// How many SEND lines of a sender nobody takes.
+fn untaken_of(table: &Table, sender: &Sender) -> usize
+    ensures { result ≡ definition.untaken_of table.now sender.now }
 {
-    sends
+    let number = sender.number();
+    sender
+        .sends()
         .iter()
         .filter(|send| !is_taken(table, number, send))
         .count()
@@ -22,18 +24,18 @@ fn untaken_among(table: &Table, number: u8, sends: &[SendLine]) -> usize
 
 /// How many SEND lines of a table nobody takes.
 fn untaken(table: &Table) -> u128
-    ensures { result ≡ takes.untaken table.now }
+    ensures { result ≡ definition.untaken table.now }
 {
     let mut count = 0;
     for sender in table.senders() {
-        count += untaken_among(table, sender.number(), sender.sends()) as u128;
+        count += untaken_of(table, sender) as u128;
     }
     count
 }
 
 /// How many SEND lines a table has.
 fn all_sends(table: &Table) -> u128
-    ensures { result ≡ takes.all_sends table.now }
+    ensures { result ≡ definition.all_sends table.now }
 {
     let mut count = 0;
     for sender in table.senders() {
@@ -50,7 +52,7 @@ fn put_send<K: Sink>(
     number: u8,
     send: &SendLine,
 )
-    ensures { Adds K.held K.faults sink.old sink.new text.old text.new (takes.send_text table.now number send.now) }
+    ensures { Adds K.held K.faults sink.old sink.new text.old text.new (definition.send_text table.now number send.now) }
 {
     if !is_taken(table, number, send) {
         let numbers = [
@@ -70,7 +72,7 @@ fn put_sends<K: Sink>(
     number: u8,
     sends: &[SendLine],
 )
-    ensures { Adds K.held K.faults sink.old sink.new text.old text.new (flat_map (takes.send_text table.now number) sends.now) }
+    ensures { Adds K.held K.faults sink.old sink.new text.old text.new (flat_map (definition.send_text table.now number) sends.now) }
 {
     for send in sends {
         put_send(text, sink, table, number, send);
@@ -79,7 +81,7 @@ fn put_sends<K: Sink>(
 
 /// Puts those of these senders.
 fn put_senders<K: Sink>(text: &mut TextBuffer, sink: &mut K, table: &Table, senders: &[Sender])
-    ensures { Adds K.held K.faults sink.old sink.new text.old text.new (flat_map (takes.sends_text table.now) senders.now) }
+    ensures { Adds K.held K.faults sink.old sink.new text.old text.new (flat_map (definition.sends_text table.now) senders.now) }
 {
     for sender in senders {
         put_sends(text, sink, table, sender.number(), sender.sends());
@@ -88,7 +90,7 @@ fn put_senders<K: Sink>(text: &mut TextBuffer, sink: &mut K, table: &Table, send
 
 /// Puts the sentence of the SEND lines that nobody takes, of which there are so many.
 fn put_some<K: Sink>(text: &mut TextBuffer, sink: &mut K, table: &Table, count: u128)
-    ensures { Adds K.held K.faults sink.old sink.new text.old text.new (takes.some_text table.now count) }
+    ensures { Adds K.held K.faults sink.old sink.new text.old text.new (definition.some_text table.now count) }
 {
     say(text, sink, NOBODY_TAKES, &[]);
     put_senders(text, sink, table, table.senders());
@@ -97,7 +99,7 @@ fn put_some<K: Sink>(text: &mut TextBuffer, sink: &mut K, table: &Table, count: 
 
 /// Puts the sentence of the SEND lines that nobody takes, if there are any.
 pub(crate) fn put_untaken<K: Sink>(text: &mut TextBuffer, sink: &mut K, table: &Table)
-    ensures { Adds K.held K.faults sink.old sink.new text.old text.new (takes.untaken_text table.now) }
+    ensures { Adds K.held K.faults sink.old sink.new text.old text.new (definition.untaken_text table.now) }
 {
     let count = untaken(table);
     if count != 0 {
