@@ -1,4 +1,4 @@
--- What is said of an accepted table beyond itself: with other offsets, and where clocks are off.
+-- What is said of an accepted table beyond itself: with other offsets, where clocks are off, and what is odd about its lines.
 use Rattle.std.specs.Prelude.{ℕ, List, [], ◌∷◌, ◌++◌, Option, Some, None}
 use Rattle.bus_say.specs.Sentences.{said}
 use Rattle.bus_table.specs.declared.mode.Mode.{Mode}
@@ -8,6 +8,7 @@ use Rattle.bus_margins.specs.declared.level.Level.{Level}
 use Rattle.bus_margins.specs.declared.level.Level.TheVariants.{Any, Common, Neither}
 use Rattle.bus_margins.specs.Rooms.{level_of}
 use Rattle.bus_margins_periodic.specs.Sentences.{drifting, drifting_text}
+use Rattle.bus_takes.specs.Takes.{takes_text}
 use Rattle.bus_explain.specs.declared.wordings.TheConstants as the
 
 -- The greatest delay that any offsets of a table bear, where it is known.
@@ -26,6 +27,10 @@ abbrev pub drifting_in : Mode → Table → List ℕ
 drifting_in Aperiodic table = said (level_wording (level_of drifting table)) []
 drifting_in Periodic table = drifting_text table
 
--- Both, where any offsets bear this delay at most.
+-- That, and what is odd about its lines.
+abbrev pub rest_text : Table → List ℕ
+rest_text table = drifting_in table.mode table ++ takes_text table
+
+-- All of it, where any offsets bear this delay at most.
 abbrev pub beyond_text : Option ℕ → Table → List ℕ
-beyond_text most table = offsets_line most ++ drifting_in table.mode table
+beyond_text most table = offsets_line most ++ rest_text table

@@ -2,8 +2,8 @@
 -- it asks for and that a SEND line that feeds it never has, or not always; and the SEND lines that nobody takes. Of a table in which nothing
 -- is odd nothing is said.
 --   number   that of the terminal whose line it is
-use Rattle.std.specs.Prelude.{ℕ, ◌==◌, not, List, [], ◌∷◌, ◌++◌, length, Option, Some, None, if◌then◌else◌}
-use Rattle.std.specs.List.{flat_map, count_by, sum_by}
+use Rattle.std.specs.Prelude.{ℕ, ◌==◌, Bool, ◌||◌, not, List, [], ◌∷◌, ◌++◌, length, Option, Some, None, if◌then◌else◌}
+use Rattle.std.specs.List.{flat_map, count_by, list_any, sum_by}
 use Rattle.bus_say.specs.Sentences.{said}
 use Rattle.bus_table.specs.declared.line.SendLine.{SendLine}
 use Rattle.bus_table.specs.declared.line.TakeLine.{TakeLine}
@@ -95,10 +95,20 @@ abbrev pub some_text : Table → ℕ → List ℕ
 some_text table count =
     said the.NOBODY_TAKES.now [] ++ flat_map (sends_text table) table.senders ++ said the.IN_ALL.now (count ∷ all_sends table ∷ [])
 
--- The same, if there are any.
+-- Whether any terminal has a TAKE line.
+abbrev pub has_take_line : Table → Bool
+has_take_line table =
+    list_any (λ (sender : Sender). not (length sender.takes == 0)) table.senders
+    || list_any (λ (listener : Listener). not (length listener.takes == 0)) table.listeners
+
+-- The sentence of so many; where no terminal takes anything, that alone.
+abbrev pub count_text : Table → ℕ → List ℕ
+count_text table count = if has_take_line table then some_text table count else said the.NO_TAKES.now []
+
+-- The sentence, if there are any.
 abbrev pub untaken_text : Table → List ℕ
 untaken_text table =
-    if untaken table == 0 then [] else some_text table (untaken table)
+    if untaken table == 0 then [] else count_text table (untaken table)
 
 -- All that is odd about the lines of a table.
 abbrev pub takes_text : Table → List ℕ

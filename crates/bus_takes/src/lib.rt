@@ -19,4 +19,4 @@ mod untaken;
 mod wordings;
 
 pub use matrix::put_matrix;
-pub use takes::write_takes;
+pub use takes::{put_takes, write_takes};

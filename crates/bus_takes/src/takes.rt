@@ -81,7 +81,7 @@ fn put_take<K: Sink>(
 }
 
 /// Puts what is odd about these TAKE lines of the terminal of this number.
-fn put_takes<K: Sink>(
+fn put_lines<K: Sink>(
     text: &mut TextBuffer,
     sink: &mut K,
     table: &Table,
@@ -100,7 +100,7 @@ fn put_of_senders<K: Sink>(text: &mut TextBuffer, sink: &mut K, table: &Table, s
     ensures { Adds K.held K.faults sink.old sink.new text.old text.new (flat_map (definition.of_sender table.now) senders.now) }
 {
     for sender in senders {
-        put_takes(text, sink, table, sender.number(), sender.takes());
+        put_lines(text, sink, table, sender.number(), sender.takes());
     }
 }
 
@@ -114,12 +114,12 @@ fn put_of_listeners<K: Sink>(
     ensures { Adds K.held K.faults sink.old sink.new text.old text.new (flat_map (definition.of_listener table.now) listeners.now) }
 {
     for listener in listeners {
-        put_takes(text, sink, table, listener.number(), listener.takes());
+        put_lines(text, sink, table, listener.number(), listener.takes());
     }
 }
 
-/// Puts all that is odd about the lines of a table.
-fn put_all<K: Sink>(text: &mut TextBuffer, sink: &mut K, table: &Table)
+/// Puts all that is odd about the TAKE and SEND lines of a table: nothing, where nothing is.
+pub fn put_takes<K: Sink>(text: &mut TextBuffer, sink: &mut K, table: &Table)
     ensures { Adds K.held K.faults sink.old sink.new text.old text.new (definition.takes_text table.now) }
 {
     put_of_senders(text, sink, table, table.senders());
@@ -127,11 +127,11 @@ fn put_all<K: Sink>(text: &mut TextBuffer, sink: &mut K, table: &Table)
     put_untaken(text, sink, table);
 }
 
-/// Writes all that is odd about the TAKE and SEND lines of a table: nothing, where nothing is. It takes no memory.
+/// Writes the same. It takes no memory.
 pub fn write_takes<K: Sink>(table: &Table, out: &mut K) -> Result<(), WriteFault>
     ensures { WritesText K.held K.faults out.old out.new result (definition.takes_text table.now) }
 {
     let mut text = TextBuffer::new();
-    put_all(&mut text, out, table);
+    put_takes(&mut text, out, table);
     text.finish(out)
 }

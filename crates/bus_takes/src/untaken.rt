@@ -4,7 +4,7 @@ ghost use Rattle.std.specs.List.{flat_map};
 ghost use Rattle.bus_outer.specs.Texts.{Adds};
 ghost use Rattle.bus_takes.specs.Takes as definition;
 
-use crate::wordings::{IN_ALL, NOBODY_TAKES, UNTAKEN};
+use crate::wordings::{IN_ALL, NO_TAKES, NOBODY_TAKES, UNTAKEN};
 use bus_feeds::is_taken;
 use bus_outer::{Sink, TextBuffer};
 use bus_say::say;
@@ -97,12 +97,37 @@ fn put_some<K: Sink>(text: &mut TextBuffer, sink: &mut K, table: &Table, count: 
     say(text, sink, IN_ALL, &[count, all_sends(table)]);
 }
 
+/// Whether any terminal has a TAKE line.
+fn has_take_line(table: &Table) -> bool
+    ensures { result ≡ definition.has_take_line table.now }
+{
+    table
+        .senders()
+        .iter()
+        .any(|sender| !sender.takes().is_empty())
+        || table
+            .listeners()
+            .iter()
+            .any(|listener| !listener.takes().is_empty())
+}
+
+/// Puts the sentence of the SEND lines that nobody takes, of which there are so many, one or more.
+fn put_count<K: Sink>(text: &mut TextBuffer, sink: &mut K, table: &Table, count: u128)
+    ensures { Adds K.held K.faults sink.old sink.new text.old text.new (definition.count_text table.now count) }
+{
+    if has_take_line(table) {
+        put_some(text, sink, table, count);
+    } else {
+        say(text, sink, NO_TAKES, &[]);
+    }
+}
+
 /// Puts the sentence of the SEND lines that nobody takes, if there are any.
 pub(crate) fn put_untaken<K: Sink>(text: &mut TextBuffer, sink: &mut K, table: &Table)
     ensures { Adds K.held K.faults sink.old sink.new text.old text.new (definition.untaken_text table.now) }
 {
     let count = untaken(table);
     if count != 0 {
-        put_some(text, sink, table, count);
+        put_count(text, sink, table, count);
     }
 }

@@ -17,6 +17,9 @@ pub(crate) const NEVER_COME: &[u8] =
 pub(crate) const SOMETIMES_COME: &[u8] =
     b"TAKE ^1 _2 #3 #4 of terminal #0 asks for #9 word$9 that SEND ^1 _6 #7 #8 of terminal #5 has only in its longer wordstrings.\n";
 
+/// No terminal has a TAKE line.
+pub(crate) const NO_TAKES: &[u8] = b"Nobody takes anything: no terminal has a TAKE line.\n";
+
 /// What stands before the SEND lines that nobody takes.
 pub(crate) const NOBODY_TAKES: &[u8] = b"Nobody takes ";
 

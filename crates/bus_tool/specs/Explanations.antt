@@ -15,19 +15,18 @@ use Rattle.bus_cable_plan.specs.Answers.{most_borne_of}
 use Rattle.bus_explain.specs.Refused.{refused_text}
 use Rattle.bus_explain.specs.Unread.{unread_text}
 use Rattle.bus_explain.specs.Wholes.{whole_text}
-use Rattle.bus_takes.specs.Takes.{takes_text}
 use Rattle.bus_tool.specs.Tolerances.{tolerance_of}
 
--- What is written of a table that the verdict accepts with these numbers, with the advices on it, and what is odd about its lines.
+-- What is written of a table that the verdict accepts with these numbers, with the advices on it.
 abbrev pub accepted_as : Table → (least most : ℕ) → List ℕ
 accepted_as table least most =
     accepted_text table least most (tolerance_of table) (advices_of table)
-    ++ beyond_text (most_borne_of table) table ++ takes_text table
+    ++ beyond_text (most_borne_of table) table
 
--- What is written of a table that this verdict refuses: why, with the advices on it, the table that one of them plans, and what is odd
--- about its lines.
+-- What is written of a table that this verdict refuses: why, with the advices on it, what is odd about its lines, and the table that one of
+-- the advices plans.
 abbrev pub refused_as : TableVerdict → Table → List ℕ
-refused_as verdict table = refused_text verdict (advices_of table) (periodic_table table) ++ takes_text table
+refused_as verdict table = refused_text table verdict (advices_of table) (periodic_table table)
 
 -- What is written of a table with this verdict.
 abbrev pub verdict_explained : TableVerdict → Table → List ℕ

@@ -11,9 +11,7 @@ ghost use Rattle.bus_cable_plan.specs.Answers.{most_borne_of};
 ghost use Rattle.bus_command.specs.declared.outcome.Outcome.TheVariants.{Answered, Done};
 ghost use Rattle.bus_explain.specs.Accepted.{IsAcceptedWith, accepted_text};
 ghost use Rattle.bus_explain.specs.Beyond.{beyond_text};
-ghost use Rattle.bus_explain.specs.Refused.{refused_text};
 ghost use Rattle.bus_explain.specs.Unread.{unread_text};
-ghost use Rattle.bus_takes.specs.Takes.{takes_text};
 ghost use Rattle.bus_tool.specs.inside.Acting.{DoesFirst, EndsExplaining};
 ghost use Rattle.bus_tool.specs.Due.{explain_answer, verdict_outcome};
 ghost use Rattle.bus_tool.specs.Explanations.{accepted_as, explanation, refused_as, table_explained};
@@ -28,7 +26,6 @@ use bus_explain::{write_accepted, write_beyond, write_refused, write_unread, wri
 use bus_outer::{Sink, Source, WriteFault};
 use bus_regime::{TableVerdict, verdict};
 use bus_table::{Stop, Table, TableError, Unread, read_or_stop};
-use bus_takes::write_takes;
 use bus_text::Reason;
 use std::alloc::Global;
 
@@ -37,14 +34,6 @@ use std::alloc::Global;
 struct Bears {
     tolerance: Option<u64>,
     offsets: Option<u32>,
-}
-
-/// Writes what is said of an accepted table beyond its verdict, where any offsets bear this delay at most, if that is known.
-fn write_more<K: Sink>(table: &Table, offsets: Option<u32>, out: &mut K) -> Result<(), WriteFault>
-    ensures { WritesText K.held K.faults out.old out.new result (beyond_text offsets table.now ++ takes_text table.now) }
-{
-    write_beyond(table, offsets, out)?;
-    write_takes(table, out)
 }
 
 /// Writes what is said of an accepted table with the numbers of its verdict and what it bears, on which these are advices.
@@ -58,25 +47,10 @@ fn write_told<K: Sink>(
 ) -> Result<(), WriteFault>
     requires { IsAcceptedWith table.now least most }
     ensures { WritesText K.held K.faults out.old out.new result (accepted_text table.now least most bears.tolerance advices.now
-        ++ beyond_text bears.offsets table.now ++ takes_text table.now) }
+        ++ beyond_text bears.offsets table.now) }
 {
     write_accepted(table, least, most, bears.tolerance, advices, out)?;
-    write_more(table, bears.offsets, out)
-}
-
-/// Writes what is said of a table that this verdict refuses, on which these are advices, with the table that one of them plans.
-fn write_against<K: Sink>(
-    table: &Table,
-    verdict: &TableVerdict,
-    advices: &[Advice],
-    planned: &Option<Table>,
-    out: &mut K,
-) -> Result<(), WriteFault>
-    requires { is_accepted verdict.now ≡ false }
-    ensures { WritesText K.held K.faults out.old out.new result (refused_text verdict.now advices.now planned.now ++ takes_text table.now) }
-{
-    write_refused(verdict, advices, planned, out)?;
-    write_takes(table, out)
+    write_beyond(table, bears.offsets, out)
 }
 
 /// Writes what is said of an accepted table with the numbers of its verdict, on which these are all advices, and of which any offsets bear
@@ -161,7 +135,7 @@ fn explain_advised<K: Sink>(
 {
     match periodic_table(alloc, table, verdict) {
         Ok(planned) => after_writing(
-            write_against(table, verdict, advices, &planned, out),
+            write_refused(table, verdict, advices, &planned, out),
             Outcome::Answered,
         ),
         Err(_) => Outcome::NoMemory,

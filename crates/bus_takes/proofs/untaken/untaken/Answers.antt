@@ -13,6 +13,6 @@ loop-sender-preserved c =
     let size : length c.senders-sender-items.result.now ≡ length table.senders = ap length same in
     let less : i < length table.senders = omega (arith, size, c.loop-sender-test.true) in
     let own : untaken_of table item ≡ untaken_of table (get_or table.senders i item) =
-        ap (untaken_of table) (c.sender-item.is ∙ ap (λ (l : List Sender). get_or l i item) same) in
+    ap (untaken_of table) (c.sender-item.is ∙ ap (λ (l : List Sender). get_or l i item) same) in
     let more = sum_by_more (untaken_of table) table.senders i item less in
     (omega (arith, c.loop-sender.invariant.0, c.untaken_of.ensures, own, more), omega (arith, c.loop-sender.invariant.1, c.untaken_of.type_inv))

@@ -8,7 +8,6 @@ use Rattle.bus_command.proofs.DoLaws.{answered}
 use Rattle.bus_explain.specs.Accepted.{accepted_text}
 use Rattle.bus_regime.specs.Verdicts.{is_accepted}
 use Rattle.bus_explain.specs.Beyond.{beyond_text}
-use Rattle.bus_takes.specs.Takes.{takes_text}
 use Rattle.bus_tool.specs.Explanations.{accepted_as}
 use Rattle.bus_tool.specs.Tolerances.{tolerance_of}
 use Rattle.bus_tool.proofs.explain.explain_started.Goals as goal
@@ -16,7 +15,7 @@ use Rattle.bus_tool.proofs.explain.explain_started.Goals as goal
 -- what is said of these
 abbrev told : Table → (least most : ℕ) → Option ℕ → Option ℕ → List Advice → List ℕ
 told table least most tolerance offsets advices =
-    accepted_text table least most tolerance advices ++ beyond_text offsets table ++ takes_text table
+    accepted_text table least most tolerance advices ++ beyond_text offsets table
 
 pub tolerance_of-tolerance-requires : goal.tolerance_of-tolerance-requires
 tolerance_of-tolerance-requires g c = ap is_accepted c.requires.accepted.1

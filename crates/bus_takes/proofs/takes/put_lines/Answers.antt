@@ -4,7 +4,7 @@ use Rattle.bus_outer.specs.Texts.{Adds}
 use Rattle.bus_outer.proofs.TextLaws.{◌▸◌}
 use Rattle.bus_takes.specs.Takes.{take_text}
 use Rattle.bus_strings.proofs.ListLaws.{flat_map-take}
-use Rattle.bus_takes.proofs.takes.put_takes.Goals as goal
+use Rattle.bus_takes.proofs.takes.put_lines.Goals as goal
 
 pub loop-take-preserved : goal.loop-take-preserved
 loop-take-preserved g c =

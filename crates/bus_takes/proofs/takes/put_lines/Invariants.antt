@@ -2,7 +2,7 @@ use Rattle.std.proofs.Common.{take}
 use Rattle.std.specs.List.{flat_map}
 use Rattle.bus_outer.specs.Texts.{Adds}
 use Rattle.bus_takes.specs.Takes.{take_text}
-use Rattle.bus_takes.proofs.takes.put_takes.Given as goal
+use Rattle.bus_takes.proofs.takes.put_lines.Given as goal
 
 abbrev pub invariant-loop-take : goal.invariant-loop-take
 invariant-loop-take g l =
