@@ -6,6 +6,7 @@ use Rattle.bus_table.specs.Tables.{Table}
 use Rattle.bus_regime.specs.declared.table_verdict.TableVerdict.{TableVerdict}
 use Rattle.bus_regime.specs.declared.table_verdict.TableVerdict.TheVariants.{Accept, ShortCycle, SmallGap, NoSync}
 use Rattle.bus_advice.specs.declared.advice.Advice.{Advice}
+use Rattle.bus_takes.specs.Takes.{takes_text}
 use Rattle.bus_explain.specs.Advised.{advised_text}
 use Rattle.bus_explain.specs.declared.wordings.TheConstants as the
 
@@ -30,5 +31,5 @@ planned_text None = []
 planned_text (Some table) = made_text table
 
 -- All that is said of a refused table, on which there are these advices, of which one makes it this periodic table.
-abbrev pub refused_text : TableVerdict → List Advice → Option Table → List ℕ
-refused_text verdict advices planned = refusal_text verdict ++ advised_text advices ++ planned_text planned
+abbrev pub refused_text : Table → TableVerdict → List Advice → Option Table → List ℕ
+refused_text table verdict advices planned = refusal_text verdict ++ advised_text advices ++ takes_text table ++ planned_text planned

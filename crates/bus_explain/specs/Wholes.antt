@@ -2,15 +2,13 @@
 -- `src/faults.rt`.
 use Rattle.std.specs.Prelude.{ℕ, List, [], ◌∷◌, ◌++◌}
 use Rattle.bus_say.specs.Sentences.{said}
-use Rattle.bus_text.specs.Digits.{hex_digit, hexadecimal}
 use Rattle.bus_table.specs.declared.error.WholeReason.{WholeReason}
 use Rattle.bus_table.specs.declared.error.WholeReason.TheVariants.{NoSender, NumberTwice, GapTwice, GapNotShort, PairTwice, OffsetRange}
 use Rattle.bus_explain.specs.declared.faults.TheConstants as the
 
 -- A label and an extension that two SEND lines have.
 abbrev pub pair_text : ℕ → ℕ → List ℕ
-pair_text label ext =
-    said the.LABEL_TWICE.now [] ++ hexadecimal 3 label ++ said the.EXTENSION_TWICE.now [] ++ hex_digit ext ∷ [] ++ said the.PAIR_TWICE.now []
+pair_text label ext = said the.PAIR_TWICE.now (label ∷ ext ∷ [])
 
 -- What is said of a reason.
 abbrev pub reason_text : WholeReason → List ℕ

@@ -1,14 +1,44 @@
-//! What is said of an accepted table beyond itself: with other offsets, and where clocks are off.
+//! What is said of an accepted table beyond itself: with other offsets, where clocks are off, and what is odd about its lines.
 ghost use Rattle.std.specs.Prelude.{◌≡◌};
 ghost use Rattle.bus_outer.specs.Sinks.{WritesText};
 ghost use Rattle.bus_outer.specs.Texts.{Adds};
-ghost use Rattle.bus_explain.specs.Beyond.{beyond_text, drifting_in, offsets_line};
+ghost use Rattle.bus_table.specs.declared.mode.Mode.TheVariants.{Aperiodic};
+ghost use Rattle.bus_explain.specs.Beyond as beyond;
+ghost use Rattle.bus_explain.specs.Beyond.{beyond_text, drifting_in, offsets_line, rest_text};
 
-use crate::wordings::MOST_DELAY;
-use bus_margins_periodic::write_drifting;
+use crate::wordings::{DRIFTING_ANY, DRIFTING_COMMON, DRIFTING_NONE, MOST_DELAY};
+use bus_margins::{Level, level_of};
+use bus_margins_periodic::{drifting, write_drifting};
 use bus_outer::{Sink, TextBuffer, WriteFault};
 use bus_say::say;
 use bus_table::{Mode, Table};
+use bus_takes::write_takes;
+
+/// What is said of an aperiodic table that has this level where clocks are off.
+fn level_wording(level: Level) -> &'static [u8]
+    ensures { result.now ≡ beyond.level_wording level }
+{
+    match level {
+        Level::Any => DRIFTING_ANY,
+        Level::Common => DRIFTING_COMMON,
+        Level::Neither => DRIFTING_NONE,
+    }
+}
+
+/// Writes what is said of an aperiodic table where clocks are off.
+fn write_level<K: Sink>(table: &Table, out: &mut K) -> Result<(), WriteFault>
+    requires { table.now.mode ≡ Aperiodic }
+    ensures { WritesText K.held K.faults out.old out.new result (drifting_in Aperiodic table.now) }
+{
+    let mut text = TextBuffer::new();
+    say(
+        &mut text,
+        out,
+        level_wording(level_of(table, drifting())),
+        &[],
+    );
+    text.finish(out)
+}
 
 /// Writes what is said of an accepted table of this mode where clocks are off.
 fn write_drift<K: Sink>(mode: Mode, table: &Table, out: &mut K) -> Result<(), WriteFault>
@@ -16,9 +46,17 @@ fn write_drift<K: Sink>(mode: Mode, table: &Table, out: &mut K) -> Result<(), Wr
     ensures { WritesText K.held K.faults out.old out.new result (drifting_in mode table.now) }
 {
     match mode {
-        Mode::Aperiodic => Ok(()),
+        Mode::Aperiodic => write_level(table, out),
         Mode::Periodic => write_drifting(table, out),
     }
+}
+
+/// Writes it, and what is odd about the table's lines.
+fn write_rest<K: Sink>(table: &Table, out: &mut K) -> Result<(), WriteFault>
+    ensures { WritesText K.held K.faults out.old out.new result (rest_text table.now) }
+{
+    write_drift(table.mode(), table, out)?;
+    write_takes(table, out)
 }
 
 /// Puts the greatest delay that any offsets bear, where it is known.
@@ -49,5 +87,5 @@ pub fn write_beyond<K: Sink>(
     ensures { WritesText K.held K.faults out.old out.new result (beyond_text most table.now) }
 {
     write_offsets(most, out)?;
-    write_drift(table.mode(), table, out)
+    write_rest(table, out)
 }

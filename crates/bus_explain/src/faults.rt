@@ -103,12 +103,6 @@ pub(crate) const OFFSET_RANGE: &[u8] =
     b"the transmit interval, TI, isn't above the offset, AT, of terminal #0.\n\
     Lower this offset, or raise the transmit interval.\n";
 
-/// Two SEND lines have a label and an extension: what stands before the label.
-pub(crate) const LABEL_TWICE: &[u8] = b"two SEND lines have the label ";
-
-/// What stands between both.
-pub(crate) const EXTENSION_TWICE: &[u8] = b" with the extension ";
-
-/// What stands behind both.
-pub(crate) const PAIR_TWICE: &[u8] = b".\n\
+/// Two SEND lines have the label `^0` and the extension `_1`.
+pub(crate) const PAIR_TWICE: &[u8] = b"two SEND lines have the label ^0 with the extension _1.\n\
     Give one of them another label or another extension.\n";

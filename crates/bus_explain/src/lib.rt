@@ -2,7 +2,7 @@
 //!
 //! - [`write_accepted`] tells an accepted table: its cycles, its spare, its load, its senders, its tolerance, and whether its order may
 //!   never come about. [`write_summary`] leaves out what that says of each sender, and [`write_beyond`] tells of other offsets and of
-//!   clocks that are off.
+//!   clocks that are off, of each table what comes of oscillators that are so by 50 millionths.
 //! - [`write_refused`] tells why the verdict refuses a table, by how many bit times, which advices there are, and the table that one plans.
 //! - [`write_whole`] tells why a table is wrong as a whole, and [`write_unread`] why a text is refused, and what may stand there.
 //! - [`FIELDS`], [`MISPLACED`], [`RANGE`] and [`SPELLING`] are what is said of a line that is refused, in a text of any kind.

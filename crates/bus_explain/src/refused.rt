@@ -12,6 +12,7 @@ use bus_outer::{Sink, TextBuffer, WriteFault};
 use bus_regime::TableVerdict;
 use bus_say::say;
 use bus_table::{Table, put_table};
+use bus_takes::put_takes;
 
 /// By how much a gap is less than what it should be; a negative one is an overlap.
 fn missing(gap: i64, needed: u64) -> u128
@@ -81,20 +82,22 @@ fn put_made<K: Sink>(text: &mut TextBuffer, sink: &mut K, table: &Table)
     put_table(text, sink, table);
 }
 
-/// Writes what is said of a table that this verdict refuses, of these advices on it, and of the planned table that the advice on periodic
-/// mode makes of it, where there is one. It takes no memory.
+/// Writes what is said of a table that this verdict refuses, of these advices on it, what is odd about its lines, and the planned table that
+/// the advice on periodic mode makes of it, where there is one. It takes no memory.
 pub fn write_refused<K: Sink>(
+    table: &Table,
     verdict: &TableVerdict,
     advices: &[Advice],
     planned: &Option<Table>,
     sink: &mut K,
 ) -> Result<(), WriteFault>
     requires { is_accepted verdict.now ≡ false }
-    ensures { WritesText K.held K.faults sink.old sink.new result (refused.refused_text verdict.now advices.now planned.now) }
+    ensures { WritesText K.held K.faults sink.old sink.new result (refused.refused_text table.now verdict.now advices.now planned.now) }
 {
     let mut text = TextBuffer::new();
     put_refusal(&mut text, sink, verdict);
     put_advices(&mut text, sink, advices);
+    put_takes(&mut text, sink, table);
     put_planned(&mut text, sink, planned);
     text.finish(sink)
 }

@@ -1,43 +1,26 @@
 //! A table that is wrong as a whole: the terminal or the pair, why, and what to change.
-ghost use Rattle.std.specs.Prelude.{[], ◌∷◌};
-ghost use Rattle.bus_text.specs.Digits.{hex_digit, hexadecimal};
 ghost use Rattle.bus_outer.specs.Sinks.{WritesText};
 ghost use Rattle.bus_outer.specs.Texts.{Adds};
 ghost use Rattle.bus_explain.specs.Wholes as wholes;
 
 use crate::faults::{
-    EXTENSION_TWICE, GAP_NOT_SHORT, GAP_TWICE, LABEL_TWICE, NO_SENDER, NUMBER_TWICE, OFFSET_RANGE,
-    PAIR_TWICE, WHOLE,
+    GAP_NOT_SHORT, GAP_TWICE, NO_SENDER, NUMBER_TWICE, OFFSET_RANGE, PAIR_TWICE, WHOLE,
 };
 use bus_outer::{Sink, TextBuffer, WriteFault};
 use bus_say::say;
 use bus_table::WholeReason;
-use bus_text::{hex_digit as digit, three_digits};
 use bus_words::{Ext, Label};
-
-/// Puts a label in three digits.
-fn put_label<K: Sink>(text: &mut TextBuffer, sink: &mut K, label: Label)
-    ensures { Adds K.held K.faults sink.old sink.new text.old text.new (hexadecimal 3 label) }
-{
-    text.put(sink, &three_digits(label.value()));
-}
-
-/// Puts the digit of an extension.
-fn put_ext<K: Sink>(text: &mut TextBuffer, sink: &mut K, ext: Ext)
-    ensures { Adds K.held K.faults sink.old sink.new text.old text.new (hex_digit ext ∷ []) }
-{
-    text.put_byte(sink, digit(ext.value()));
-}
 
 /// Puts a sentence on a label and an extension.
 fn put_pair<K: Sink>(text: &mut TextBuffer, sink: &mut K, label: Label, ext: Ext)
     ensures { Adds K.held K.faults sink.old sink.new text.old text.new (wholes.pair_text label ext) }
 {
-    say(text, sink, LABEL_TWICE, &[]);
-    put_label(text, sink, label);
-    say(text, sink, EXTENSION_TWICE, &[]);
-    put_ext(text, sink, ext);
-    say(text, sink, PAIR_TWICE, &[]);
+    say(
+        text,
+        sink,
+        PAIR_TWICE,
+        &[label.value() as u128, ext.value() as u128],
+    );
 }
 
 /// Puts a reason.

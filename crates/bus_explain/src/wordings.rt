@@ -67,13 +67,13 @@ terminal  bit times       \xc2\xb5s  bit times       \xc2\xb5s  bit times       
 
 /// It starts itself, and what that means.
 pub(crate) const STARTS: &[u8] =
-    b"The table starts itself: whenever its terminals are powered up, with delays up to the tolerance too, its senders come to take \
-    turns by themselves, as long as each has messages left.\n";
+    b"On exact clocks the table starts itself: whenever its terminals are powered up, with delays up to the tolerance too, its senders \
+    come to take turns by themselves, as long as each has messages left.\n";
 
 /// It doesn't, and its senders never part once they all start at once.
 pub(crate) const NEVER_PARTS: &[u8] =
-    b"The table doesn't start itself: there are moments of power-up with which, without delays, all senders start at once and \
-    collide in every cycle, for ever.\n";
+    b"The table doesn't start itself: there are moments of power-up with which, on exact clocks and without delays, all senders start \
+    at once and collide in every cycle, for ever.\n";
 
 /// It doesn't, and they may part.
 pub(crate) const MAY_START: &[u8] =
@@ -82,6 +82,22 @@ pub(crate) const MAY_START: &[u8] =
 /// There is no advice to start.
 pub(crate) const NO_START: &[u8] =
     b"No transmit interval makes it start itself, if nothing else is changed.\n";
+
+// ---- on clocks that are off
+
+/// Its order comes by itself.
+pub(crate) const DRIFTING_ANY: &[u8] =
+    b"Where oscillators are off by up to 50 millionths, its order comes about by itself too, whenever its terminals are powered up, as \
+    long as each has messages left.\n";
+
+/// It stands from a common start alone.
+pub(crate) const DRIFTING_COMMON: &[u8] =
+    b"Where oscillators are off by up to 50 millionths, its order stands where all terminals are powered up at once and have as many \
+    messages each; of other starts nothing is promised then.\n";
+
+/// Nothing is known of it.
+pub(crate) const DRIFTING_NONE: &[u8] =
+    b"Where oscillators are off by up to 50 millionths, nothing is promised of its order: margins tells which rule lacks room.\n";
 
 /// The greatest delay, `@0`, that any offsets bear.
 pub(crate) const MOST_DELAY: &[u8] =

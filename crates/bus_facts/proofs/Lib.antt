@@ -3,5 +3,6 @@ pub mod Shapes
 pub mod Plain
 pub mod StartLemmas
 pub mod Pushing
+pub mod Onto
 pub mod PaceLemmas
 pub mod TellingLemmas

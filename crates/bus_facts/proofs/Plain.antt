@@ -1,5 +1,5 @@
 -- What is told of a text has no float and nests six deep at most.
-use Rattle.std.proofs.Common.{◌≡◌, ℕ, suc, ◌+◌, ◌≤◌, Bool, false, List, [], ◌∷◌, Some, None, arith, refl}
+use Rattle.std.proofs.Common.{◌≡◌, ℕ, suc, ◌+◌, ◌≤◌, Bool, false, List, [], ◌∷◌, ◌==◌, Some, None, arith, refl}
 use Rattle.std.specs.Prelude.{ℤ, pos, negsuc, Option, Result, Ok, Err}
 use Rattle.serde_json.specs.Data.{Data, null, boolean, number, string, depth}
 use Rattle.serde_json.specs.Find.{of_integer}
@@ -14,7 +14,9 @@ use Rattle.bus_table.specs.declared.mode.Mode.{Mode}
 use Rattle.bus_table.specs.declared.mode.Mode.TheVariants.{Aperiodic, Periodic}
 use Rattle.bus_table.specs.Reading.{answer_of}
 use Rattle.bus_table.specs.Stops.{Stop, spent, stop_of}
-use Rattle.bus_table.specs.Tables.{Sender, Table}
+use Rattle.bus_table.specs.declared.line.TakeLine.{TakeLine}
+use Rattle.bus_table.specs.Tables.{Sender, Listener, Table}
+use Rattle.bus_filter.specs.Received.{Taker, sender_taker, listener_taker}
 use Rattle.bus_text.specs.declared.reason.Reason.{Reason}
 use Rattle.bus_regime.specs.Gaps.{width}
 use Rattle.bus_regime.specs.Verdicts.{verdict_of}
@@ -33,9 +35,10 @@ use Rattle.bus_facts.specs.Bounds as bounds
 use Rattle.bus_facts.specs.Margins as margins
 use Rattle.bus_facts.specs.Senders as senders
 use Rattle.bus_facts.specs.Starts as starts
+use Rattle.bus_facts.specs.Takes as takes
 use Rattle.bus_facts.specs.Wrong as wrong
 use Rattle.bus_facts.specs.Facts as facts
-use Rattle.bus_facts.proofs.Shapes.{IsPlain, EachPlain, done, one, plain_object, no_more, one_more, each_plain, plain_list}
+use Rattle.bus_facts.proofs.Shapes.{IsPlain, EachPlain, done, one, plain_object, no_more, one_more, each_plain, plain_append, plain_flat, plain_unless, plain_list}
 
 -- ---- leaves
 no_less : (n : ℕ) → 0 ≤ n
@@ -137,16 +140,22 @@ plain_wait : (n : ℕ) (table : Table) (pace : Option Pace) → IsPlain (suc n) 
 plain_wait n table None = plain_null (suc n)
 plain_wait n table (Some pace) = plain_delayed n _ _
 
-plain_send : (n : ℕ) (latency : Data) (line : SendLine) → IsPlain n latency → IsPlain (suc n) (senders.send_value latency line)
-plain_send n latency line h =
+plain_taken : (n : ℕ) (table : Table) (number : ℕ) (send : SendLine) → IsPlain (suc n) (takes.taken_by_value table number send)
+plain_taken n table number send =
+    plain_list n _ (plain_append n _ _ (each_plain n _ _ (λ (sender : Sender) i. plain_count n sender.number))
+    (each_plain n _ _ (λ (listener : Listener) i. plain_count n listener.number)))
+
+plain_send : (n : ℕ) (latency taken_by : Data) (line : SendLine) → IsPlain n latency → IsPlain n taken_by
+    → IsPlain (suc n) (senders.send_value latency taken_by line)
+plain_send n latency taken_by line h k =
     plain_object n _ (one n _ _ _ (plain_string n _) (one n _ _ _ (plain_string n _) (one n _ _ _ h (one n _ _ _ (plain_count n line.least)
-    (one n _ _ _ (plain_count n line.most) (done n))))))
+    (one n _ _ _ (plain_count n line.most) (one n _ _ _ k (done n)))))))
 
 plain_sends : (n : ℕ) (table : Table) (pace : Option Pace) (sender : Sender) (place : ℕ) (lines : List SendLine)
     → EachPlain (suc (suc n)) (senders.send_values table pace sender place lines)
 plain_sends n table pace sender place [] = no_more _
 plain_sends n table pace sender place (line ∷ lines) =
-    one_more _ _ _ (plain_send (suc n) _ line (plain_latency n table pace sender place)) (plain_sends n table pace sender (suc place) lines)
+    one_more _ _ _ (plain_send (suc n) _ _ line (plain_latency n table pace sender place) (plain_taken n table sender.number line)) (plain_sends n table pace sender (suc place) lines)
 
 plain_sender : (n : ℕ) (table : Table) (pace : Option Pace) (at : Option ℕ) (gap : Data) (sender : Sender) → IsPlain (suc (suc (suc n))) gap
     → IsPlain (suc (suc (suc (suc n)))) (senders.sender_value table pace at gap sender)
@@ -172,6 +181,37 @@ plain_senders table pace = plain_list 4 _ (plain_senders_in 0 table.mode table p
 plain_start_in : (n : ℕ) (mode : Mode) (table : Table) → IsPlain (suc n) (starts.start_value_in mode table)
 plain_start_in n Aperiodic table = plain_object n _ (one n _ _ _ (plain_or_null n _) (one n _ _ _ (plain_boolean n _) (done n)))
 plain_start_in n Periodic table = plain_null (suc n)
+
+-- ---- TAKE lines
+plain_ext : (n : ℕ) (ext : Option ℕ) → IsPlain n (takes.ext_or_null ext)
+plain_ext n (Some ext) = plain_string n _
+plain_ext n None = plain_null n
+
+plain_feed : (n other : ℕ) (take : TakeLine) (send : SendLine) → IsPlain (suc n) (takes.feed_value other take send)
+plain_feed n other take send =
+    plain_object n _ (one n _ _ _ (plain_count n _) (one n _ _ _ (plain_string n _) (one n _ _ _ (plain_string n _) (one n _ _ _ (plain_count n _)
+    (one n _ _ _ (plain_count n _) (one n _ _ _ (plain_count n other) (done n)))))))
+
+plain_feeder : (n number : ℕ) (take : TakeLine) (sender : Sender) → EachPlain (suc n) (takes.feeder_values number take sender)
+plain_feeder n number take sender =
+    plain_unless (suc n) (sender.number == number) _ (each_plain (suc n) (takes.feed_value sender.number take) _ (λ send i. plain_feed n sender.number take send))
+
+plain_take : (n : ℕ) (table : Table) (number : ℕ) (take : TakeLine) → IsPlain (suc (suc (suc n))) (takes.take_value table number take)
+plain_take n table number take =
+    plain_object (suc (suc n)) _
+    (one _ _ _ _ (plain_count _ _) (one _ _ _ _ (plain_ext _ take.ext)
+    (one _ _ _ _ (plain_list (suc n) _ (plain_flat (suc n) (takes.feeder_values number take) table.senders (plain_feeder n number take)))
+    (one _ _ _ _ (plain_count _ _) (one _ _ _ _ (plain_string _ _) (one _ _ _ _ (plain_count _ number) (done _)))))))
+
+plain_taker : (n : ℕ) (table : Table) (taker : Taker) → EachPlain (suc (suc (suc n))) (takes.taker_values table taker)
+plain_taker n table taker = each_plain _ (takes.take_value table taker.number) taker.takes (λ take i. plain_take n table taker.number take)
+
+plain_takes : (table : Table) → IsPlain 5 (takes.takes_value table)
+plain_takes table =
+    plain_list 4 _ (plain_append 4 _ _
+    (plain_flat 4 (λ sender. takes.taker_values table (sender_taker sender)) table.senders (λ sender. plain_taker 1 table (sender_taker sender)))
+    (plain_flat 4 (λ listener. takes.taker_values table (listener_taker listener)) table.listeners
+    (λ listener. plain_taker 1 table (listener_taker listener))))
 
 -- ---- why there is no table
 plain_spent : (n : ℕ) (keyword : Option Keyword) → IsPlain n (wrong.spent_value keyword)
@@ -208,6 +248,7 @@ record PlainFigures (figures : facts.Figures) : Type 0 where
   spare : IsPlain 5 figures.spare
   tolerance : IsPlain 5 figures.tolerance
   senders : IsPlain 5 figures.senders
+  takes : IsPlain 5 figures.takes
 
 plain_refused : (table : Table) → PlainFigures (facts.refused_figures table)
 plain_refused table = record {
@@ -217,6 +258,7 @@ plain_refused table = record {
   spare = plain_null 5;
   tolerance = plain_null 5;
   senders = plain_senders table None;
+  takes = plain_takes table;
 }
 
 plain_figures : (verdict : TableVerdict) (table : Table) → PlainFigures (facts.figures_of verdict table)
@@ -227,6 +269,7 @@ plain_figures (Accept mode least most) table = record {
   spare = plain_count 5 _;
   tolerance = plain_tolerance 2 table;
   senders = plain_senders table _;
+  takes = plain_takes table;
 }
 plain_figures (ShortCycle least ti) table = plain_refused table
 plain_figures (SmallGap terminal gap needed) table = plain_refused table
@@ -237,15 +280,16 @@ plain_told figures table h =
     plain_object 5 _
     (one _ _ _ _ (plain_boolean _ _) (one _ _ _ _ (plain_advices 3 _) (one _ _ _ _ h.cycle (one _ _ _ _ (plain_null _) (one _ _ _ _ h.load
     (one _ _ _ _ h.margins (one _ _ _ _ (plain_string _ _) (one _ _ _ _ h.senders (one _ _ _ _ (plain_count _ _) (one _ _ _ _ h.spare
-    (one _ _ _ _ (plain_start_in 4 table.mode table) (one _ _ _ _ (plain_count _ _) (one _ _ _ _ h.tolerance
-    (one _ _ _ _ (plain_verdict 4 _) (done 5)))))))))))))))
+    (one _ _ _ _ (plain_start_in 4 table.mode table) (one _ _ _ _ h.takes (one _ _ _ _ (plain_count _ _) (one _ _ _ _ h.tolerance
+    (one _ _ _ _ (plain_verdict 4 _) (done 5))))))))))))))))
 
 plain_error : (error : Data) → IsPlain 5 error → IsPlain 6 (facts.error_value error)
 plain_error error h =
     plain_object 5 _
     (one _ _ _ _ (plain_boolean _ _) (one _ _ _ _ (plain_list 4 _ (no_more 4)) (one _ _ _ _ (plain_null _) (one _ _ _ _ h (one _ _ _ _ (plain_null _) (one _ _ _ _ (plain_null _)
     (one _ _ _ _ (plain_null _) (one _ _ _ _ (plain_list 4 _ (no_more 4)) (one _ _ _ _ (plain_null _) (one _ _ _ _ (plain_null _)
-    (one _ _ _ _ (plain_null _) (one _ _ _ _ (plain_null _) (one _ _ _ _ (plain_null _) (one _ _ _ _ (plain_null _) (done 5)))))))))))))))
+    (one _ _ _ _ (plain_null _) (one _ _ _ _ (plain_list 4 _ (no_more 4)) (one _ _ _ _ (plain_null _) (one _ _ _ _ (plain_null _)
+    (one _ _ _ _ (plain_null _) (done 5))))))))))))))))
 
 pub plain_table : (table : Table) → IsPlain 6 (facts.table_value table)
 plain_table table = plain_told (facts.figures_of (verdict_of table) table) table (plain_figures (verdict_of table) table)

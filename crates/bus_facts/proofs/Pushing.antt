@@ -11,6 +11,7 @@ use Rattle.bus_strings.proofs.ListLaws.{drop_at}
 use Rattle.bus_table.specs.declared.line.SendLine.{SendLine}
 use Rattle.bus_table.specs.Tables.{Sender, Table}
 use Rattle.bus_facts.specs.declared.pace.Pace.{Pace}
+use Rattle.bus_facts.specs.Takes.{taken_by_value}
 use Rattle.bus_facts.specs.Values.{count}
 use Rattle.bus_facts.specs.Senders.{latency_value, send_value, send_values, sender_value, turn_values}
 
@@ -44,12 +45,12 @@ pub whole_of : (values : List Value) (rest whole : List Data) → rest ≡ [] �
 whole_of values rest whole none h = sym (append-nil (map view values)) ∙ ap (λ l. map view values ++ l) (sym none) ∙ h
 
 pub send_step : (table : Table) (pace : Option Pace) (sender : Sender) (k : ℕ) (line : SendLine) (value : Value) (old new : List Value) (whole : List Data)
-    → slice_get sender.sends k ≡ Some line → view value ≡ send_value (latency_value table pace sender k) line → new ≡ old ++ value ∷ []
+    → slice_get sender.sends k ≡ Some line → view value ≡ send_value (latency_value table pace sender k) (taken_by_value table sender.number line) line → new ≡ old ++ value ∷ []
     → map view old ++ send_values table pace sender k (drop k sender.sends) ≡ whole
     → map view new ++ send_values table pace sender (k + 1) (drop (k + 1) sender.sends) ≡ whole
 send_step table pace sender k line value old new whole at is added h =
     ap (λ n. map view new ++ send_values table pace sender n (drop (k + 1) sender.sends)) (add-one k)
-    ∙ grown old new value (send_value (latency_value table pace sender k) line) (send_values table pace sender (suc k) (drop (k + 1) sender.sends)) whole added is
+    ∙ grown old new value (send_value (latency_value table pace sender k) (taken_by_value table sender.number line) line) (send_values table pace sender (suc k) (drop (k + 1) sender.sends)) whole added is
     (ap (λ l. map view old ++ send_values table pace sender k l) (sym (drop_at sender.sends k line at)) ∙ h)
 
 pub send_end : (table : Table) (pace : Option Pace) (sender : Sender) (k : ℕ) (values : List Value) (whole : List Data) → length sender.sends ≤ k

@@ -1,5 +1,6 @@
 -- JSON values that have no float and nest no deeper than so much.
-use Rattle.std.proofs.Common.{◌≡◌, ℕ, suc, ◌≤◌, max, false, ◌||◌, List, [], ◌∷◌, map, inl, inr, arith, refl, ap, ◌∙◌}
+use Rattle.std.proofs.Common.{◌≡◌, ℕ, suc, ◌≤◌, max, Bool, true, false, ◌||◌, List, [], ◌∷◌, ◌++◌, ◌×◌, if◌then◌else◌, map, inl, inr, arith, refl, ap, ◌∙◌}
+use Rattle.std.specs.List.{flat_map}
 use Rattle.bus_strings.specs.Members.{In}
 use Rattle.serde_json.specs.Data.{Data, array, object, Members, no_members, member, depth, items_depth, members_depth}
 use Rattle.serde_json.specs.View.{items_of}
@@ -43,9 +44,30 @@ one_more n d ds a b = record {
   deep = both (depth d) (items_depth (items_of ds)) n a.deep b.deep;
 }
 
+parted : (n : ℕ) (d : Data) (ds : List Data) → EachPlain n (d ∷ ds) → IsPlain n d × EachPlain n ds
+parted n d ds h =
+    let whole : (has_float d || items_have_float (items_of ds)) ≡ false = h.whole in
+    let deep : max (depth d) (items_depth (items_of ds)) ≤ n = h.deep in
+    (record { whole = grind whole; deep = omega (arith, deep) }, record { whole = grind whole; deep = omega (arith, deep) })
+
 pub each_plain : {A : Type 0} (n : ℕ) (f : A → Data) (xs : List A) → ((x : A) → In x xs → IsPlain n (f x)) → EachPlain n (map f xs)
 each_plain n f [] h = no_more n
 each_plain n f (x ∷ xs) h = one_more n (f x) (map f xs) (h x (inl refl)) (each_plain n f xs (λ y i. h y (inr i)))
+
+pub plain_append : (n : ℕ) (ds es : List Data) → EachPlain n ds → EachPlain n es → EachPlain n (ds ++ es)
+plain_append n [] es h k = k
+plain_append n (d ∷ ds) es h k =
+    let parts = parted n d ds h in
+    one_more n d (ds ++ es) parts.0 (plain_append n ds es parts.1 k)
+
+pub plain_flat : {A : Type 0} (n : ℕ) (f : A → List Data) (xs : List A) → ((x : A) → EachPlain n (f x)) → EachPlain n (flat_map f xs)
+plain_flat n f [] h = no_more n
+plain_flat n f (x ∷ xs) h = plain_append n (f x) (flat_map f xs) (h x) (plain_flat n f xs h)
+
+-- none of them where a test says so
+pub plain_unless : (n : ℕ) (test : Bool) (ds : List Data) → EachPlain n ds → EachPlain n (if test then [] else ds)
+plain_unless n true ds h = no_more n
+plain_unless n false ds h = h
 
 pub plain_list : (n : ℕ) (ds : List Data) → EachPlain n ds → IsPlain (suc n) (array (items_of ds))
 plain_list n ds h = record { whole = h.whole; deep = (let d : items_depth (items_of ds) ≤ n = h.deep in omega arith) }

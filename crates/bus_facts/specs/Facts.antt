@@ -19,12 +19,13 @@ use Rattle.bus_facts.specs.Bounds.{cycle_value, load_value, tolerance_value}
 use Rattle.bus_facts.specs.Margins.{margins_value}
 use Rattle.bus_facts.specs.Senders.{senders_value}
 use Rattle.bus_facts.specs.Starts.{start_value}
+use Rattle.bus_facts.specs.Takes.{takes_value}
 use Rattle.bus_facts.specs.Values.{count, list}
 use Rattle.bus_facts.specs.Verdicts.{verdict_value}
 use Rattle.bus_facts.specs.Wrong.{text_value, whole_value}
 
 -- ---- a valid table
--- What only an accepted table has, and its senders.
+-- What only an accepted table has, and its senders and TAKE lines.
 pub record Figures : Type 0 where
   pub cycle : Data
   pub load : Data
@@ -32,6 +33,7 @@ pub record Figures : Type 0 where
   pub spare : Data
   pub tolerance : Data
   pub senders : Data
+  pub takes : Data
 
 -- They, of an accepted table with these numbers of its verdict.
 abbrev pub accepted_figures : Table → (least most : ℕ) → Figures
@@ -42,9 +44,10 @@ accepted_figures table least most = record {
   spare = count (spare table least);
   tolerance = tolerance_value table;
   senders = senders_value table (Some (record { most = most; tolerance = tolerance_of table }));
+  takes = takes_value table;
 }
 
--- A refused table has its senders alone.
+-- A refused table has its senders and TAKE lines alone.
 abbrev pub refused_figures : Table → Figures
 refused_figures table = record {
   cycle = null;
@@ -53,6 +56,7 @@ refused_figures table = record {
   spare = null;
   tolerance = null;
   senders = senders_value table None;
+  takes = takes_value table;
 }
 
 -- The figures of a table with this verdict.
@@ -76,9 +80,10 @@ told_as accepted mode sg ti advices start verdict figures =
     (member (codes "sg") (count sg)
     (member (codes "spare") figures.spare
     (member (codes "start") start
+    (member (codes "takes") figures.takes
     (member (codes "ti") (count ti)
     (member (codes "tolerance") figures.tolerance
-    (member (codes "verdict") verdict no_members))))))))))))))
+    (member (codes "verdict") verdict no_members)))))))))))))))
 
 -- All that is told of a table with these figures.
 abbrev pub told_of : Figures → Table → Data
@@ -105,9 +110,10 @@ error_value error =
     (member (codes "sg") null
     (member (codes "spare") null
     (member (codes "start") null
+    (member (codes "takes") (list [])
     (member (codes "ti") null
     (member (codes "tolerance") null
-    (member (codes "verdict") null no_members))))))))))))))
+    (member (codes "verdict") null no_members)))))))))))))))
 
 -- What is told of a text that gives no valid table for this reason; want of memory is no reason of a text.
 abbrev pub refusal_value : TableError → List ℕ → Data

@@ -5,6 +5,7 @@ pub mod Advised
 pub mod Bounds
 pub mod Margins
 pub mod Starts
+pub mod Takes
 pub mod Senders
 pub mod Wrong
 pub mod Facts

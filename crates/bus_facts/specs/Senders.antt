@@ -14,6 +14,7 @@ use Rattle.bus_table.specs.Turns.{turn_order}
 use Rattle.bus_regime.specs.Gaps.{Gap, gaps, width}
 use Rattle.bus_reach.specs.Latency.{longest_wait, latency}
 use Rattle.bus_facts.specs.declared.pace.Pace.{Pace}
+use Rattle.bus_facts.specs.Takes.{taken_by_value}
 use Rattle.bus_facts.specs.Values.{count, count_or_null, delayed, list}
 
 -- The longest wait from one start of a sender to its next; null of a refused table.
@@ -27,20 +28,21 @@ latency_value table None sender place = null
 latency_value table (Some pace) sender place =
     delayed (option_map (λ d. latency table pace.most d sender place) pace.tolerance) (latency table pace.most 0 sender place)
 
--- A wordstring, by its label and extension as a table text writes them, with the bounds of its data words.
-abbrev pub send_value : Data → SendLine → Data
-send_value latency line =
+-- A wordstring, by its label and extension as a table text writes them, with the bounds of its data words, and who takes it.
+abbrev pub send_value : Data → Data → SendLine → Data
+send_value latency taken_by line =
     object (member (codes "ext") (string (hex_digit line.ext ∷ []))
     (member (codes "label") (string (hexadecimal 3 line.label))
     (member (codes "latency") latency
     (member (codes "least") (count line.least)
-    (member (codes "most") (count line.most) no_members)))))
+    (member (codes "most") (count line.most)
+    (member (codes "taken_by") taken_by no_members))))))
 
 -- The wordstrings on these lines of a sender, of which the first stands at this place.
 abbrev pub send_values : Table → Option Pace → Sender → ℕ → List SendLine → List Data
 send_values table pace sender place [] = []
 send_values table pace sender place (line ∷ lines) =
-    send_value (latency_value table pace sender place) line ∷ send_values table pace sender (suc place) lines
+    send_value (latency_value table pace sender place) (taken_by_value table sender.number line) line ∷ send_values table pace sender (suc place) lines
 
 -- A sender, whose offset it has in periodic mode alone, behind this gap.
 abbrev pub sender_value : Table → Option Pace → Option ℕ → (gap : Data) → Sender → Data

@@ -2,26 +2,15 @@
 ghost use Rattle.std.specs.Prelude.{◌≡◌, IfOk};
 ghost use Rattle.serde_json.specs.View.{view};
 ghost use Rattle.bus_margins.specs.Texts as aperiodic;
-ghost use Rattle.bus_margins_periodic.specs.Sentences.{drifting};
 ghost use Rattle.bus_margins_periodic.specs.Texts as periodic;
 ghost use Rattle.bus_facts.specs.Margins as levels;
 
 use bus_bounds::Bounds;
 use bus_margins::Level as AperiodicLevel;
-use bus_margins_periodic::Level as PeriodicLevel;
+use bus_margins_periodic::{Level as PeriodicLevel, drifting};
 use bus_table::{Mode, Table};
 use serde_json::{Value, json};
 use std::alloc::{AllocError, Global};
-
-/// Oscillators are off by up to 50 millionths, and nothing else is inexact.
-fn drift() -> Bounds
-    ensures { result ≡ drifting }
-{
-    match Bounds::new(0, 0, 50) {
-        Some(bounds) => bounds,
-        None => unreachable!(),
-    }
-}
 
 /// The word of the level of an aperiodic table.
 fn aperiodic_word(level: AperiodicLevel) -> &'static str
@@ -71,6 +60,6 @@ fn level_value(alloc: Global, bounds: Bounds, level: &str) -> Result<Value, Allo
 pub(crate) fn margins_value(alloc: Global, table: &Table) -> Result<Value, AllocError>
     ensures { IfOk result (λ value. view value ≡ levels.margins_value table.now) }
 {
-    let bounds = drift();
+    let bounds = drifting();
     level_value(alloc, bounds, level_word(table, bounds))
 }

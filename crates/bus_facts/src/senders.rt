@@ -11,6 +11,7 @@ ghost use Rattle.bus_facts.specs.Senders as senders;
 ghost use Rattle.bus_facts.specs.inside.Slow.{IsSlow};
 
 use crate::pace::Pace;
+use crate::taken::taken_by_value;
 use crate::values::{count_or_null, delayed, ext_text, label_text};
 use bus_reach::{latency, longest_wait};
 use bus_regime::{TurnGap, gap_at, turn_ends};
@@ -78,9 +79,14 @@ fn latency_value(
     }
 }
 
-/// A wordstring with this latency.
-fn send_value(alloc: Global, latency: Value, line: &SendLine) -> Result<Value, AllocError>
-    ensures { IfOk result (λ value. view value ≡ senders.send_value (view latency) line.now) }
+/// A wordstring with this latency, which these terminals take.
+fn send_value(
+    alloc: Global,
+    latency: Value,
+    taken_by: Value,
+    line: &SendLine,
+) -> Result<Value, AllocError>
+    ensures { IfOk result (λ value. view value ≡ senders.send_value (view latency) (view taken_by) line.now) }
 {
     let ext = ext_text(alloc, line.ext)?;
     let label = label_text(alloc, line.label)?;
@@ -89,7 +95,8 @@ fn send_value(alloc: Global, latency: Value, line: &SendLine) -> Result<Value, A
         "label": label,
         "latency": latency,
         "least": line.least,
-        "most": line.most
+        "most": line.most,
+        "taken_by": taken_by
     })
 }
 
@@ -107,7 +114,8 @@ fn send_values(
     let mut values = Vec::with_capacity(alloc, sends.len())?;
     for place in 0..sends.len() {
         let latency = latency_value(alloc, table, pace, sender, place)?;
-        values.push(send_value(alloc, latency, &sends[place])?)?;
+        let taken_by = taken_by_value(alloc, table, sender.number(), &sends[place])?;
+        values.push(send_value(alloc, latency, taken_by, &sends[place])?)?;
     }
     Ok(values)
 }

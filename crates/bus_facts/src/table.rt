@@ -13,6 +13,7 @@ use crate::margins::margins_value;
 use crate::pace::Pace;
 use crate::senders::senders_value;
 use crate::starts::start_value;
+use crate::takes::takes_value;
 use crate::verdict::verdict_value;
 use bus_advice::advices;
 use bus_explain::spare;
@@ -23,7 +24,7 @@ use bus_table::{Mode, Table};
 use serde_json::{Map, Value, put};
 use std::alloc::{AllocError, Global};
 
-/// What only an accepted table has, and its senders.
+/// What only an accepted table has, and its senders and TAKE lines.
 #[derive(Drop)]
 struct Figures {
     cycle: Value,
@@ -32,6 +33,7 @@ struct Figures {
     spare: Value,
     tolerance: Value,
     senders: Value,
+    takes: Value,
 }
 
 /// The figures of an accepted table with these numbers of its verdict.
@@ -54,10 +56,11 @@ fn accepted_figures(
         spare: Value::from(spare(table, least)),
         tolerance: tolerance_value(alloc, table, tolerance)?,
         senders: senders_value(alloc, table, Some(pace))?,
+        takes: takes_value(alloc, table)?,
     })
 }
 
-/// A refused table has its senders alone.
+/// A refused table has its senders and TAKE lines alone.
 fn refused_figures(alloc: Global, table: &Table) -> Result<Figures, AllocError>
     ensures { IfOk result (λ figures. seen figures ≡ facts.refused_figures table.now) }
 {
@@ -68,6 +71,7 @@ fn refused_figures(alloc: Global, table: &Table) -> Result<Figures, AllocError>
         spare: Value::Null,
         tolerance: Value::Null,
         senders: senders_value(alloc, table, None)?,
+        takes: takes_value(alloc, table)?,
     })
 }
 
@@ -137,6 +141,7 @@ fn told_as(alloc: Global, heads: Heads, figures: Figures) -> Result<Value, Alloc
     put(&mut members, alloc, "sg", Value::from(heads.sg))?;
     put(&mut members, alloc, "spare", figures.spare)?;
     put(&mut members, alloc, "start", heads.start)?;
+    put(&mut members, alloc, "takes", figures.takes)?;
     put(&mut members, alloc, "ti", Value::from(heads.ti))?;
     put(&mut members, alloc, "tolerance", figures.tolerance)?;
     put(&mut members, alloc, "verdict", heads.verdict)?;

@@ -44,6 +44,7 @@ fn error_value(alloc: Global, error: Value) -> Result<Value, AllocError>
         "sg": null,
         "spare": null,
         "start": null,
+        "takes": [],
         "ti": null,
         "tolerance": null,
         "verdict": null

@@ -6,7 +6,8 @@
 //! - [`feeds`] and [`share_of`] say this of two lines.
 //! - [`is_fed`] says whether anything feeds a TAKE line, [`only_itself_sends`] whether only its own terminal sends what it asks for, and
 //!   [`next_feeder`] and [`next_feed`] go over the senders, and over the SEND lines of each, that feed it.
-//! - [`is_taken`] says whether any terminal takes a SEND line; [`next_sender`] and [`next_listener`] go over those that do.
+//! - [`is_taken`] says whether any terminal takes a SEND line, [`sender_takes`] and [`listener_takes`] whether one does; [`next_sender`] and
+//!   [`next_listener`] go over those that do.
 //! - [`laws`] has what this means for the received words of `bus_filter`.
 //!
 //! No call takes memory.
@@ -22,4 +23,4 @@ mod takers;
 
 pub use feeders::{is_fed, is_feeder, next_feed, next_feeder, only_itself_sends};
 pub use share::{Share, feeds, share_of};
-pub use takers::{is_taken, next_listener, next_sender};
+pub use takers::{is_taken, listener_takes, next_listener, next_sender, sender_takes};

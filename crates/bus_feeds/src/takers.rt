@@ -16,14 +16,14 @@ fn has_take(send: &SendLine, takes: &[TakeLine]) -> bool
 }
 
 /// Whether a sender takes words of a SEND line of the terminal of this number: it is another, and has a TAKE line that is fed.
-fn sender_takes(number: u8, send: &SendLine, sender: &Sender) -> bool
+pub fn sender_takes(number: u8, send: &SendLine, sender: &Sender) -> bool
     ensures { result ≡ definitions.sender_takes number send.now sender.now }
 {
     sender.number() != number && has_take(send, sender.takes())
 }
 
 /// Whether a listener takes words of a SEND line of the terminal of this number.
-fn listener_takes(number: u8, send: &SendLine, listener: &Listener) -> bool
+pub fn listener_takes(number: u8, send: &SendLine, listener: &Listener) -> bool
     ensures { result ≡ definitions.listener_takes number send.now listener.now }
 {
     listener.number() != number && has_take(send, listener.takes())

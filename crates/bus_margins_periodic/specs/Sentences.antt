@@ -26,7 +26,7 @@ drifting = record { delay = 0; jitter = 0; clocks = 50 }
 abbrev pub lacking : Room → ℕ
 lacking room = div_ceil (room.need - room.have) 500
 
--- What is said where a rule lacks. Of order: of the first turn, one that it holds back, or itself, and one that is due behind, less than a
+-- What is said where a rule lacks, and, but for order, what would be enough against that. Of order: of the first turn, one that it holds back, or itself, and one that is due behind, less than a
 -- round behind the first. Of the beginning no room but these two is told: the quiet before a settled start is longer than a synchronization
 -- gap by a terminal gap, which so little drift doesn't use up, so all others are in sync when the first is due; and a sender alone that
 -- doesn't lack sync leads.

@@ -2,7 +2,8 @@
 //!
 //! - [`margins`] tells the level of a table within bounds and the room that each rule leaves, [`level_of`] the level alone.
 //! - [`bears`] tells how great each bound may be, alone, before the level is lower.
-//! - [`write_periodic`] writes all of it, [`write_drifting`] in a sentence what comes of clocks that are 50 millionths off.
+//! - [`write_periodic`] writes all of it, [`write_drifting`] in a sentence what comes of clocks that are 50 millionths off,
+//!   the bounds that [`drifting`] has.
 //!
 //! [`laws`] has what a level says of the bus of the table, in the words of `bus_drift`.
 //!
@@ -45,6 +46,6 @@ mod writing;
 pub use bearing::bears;
 pub use level::{Level, Margins};
 pub use room::{Room, Rooms, holds};
-pub use sentences::write_drifting;
+pub use sentences::{drifting, write_drifting};
 pub use telling::{level_of, margins};
 pub use writing::write_periodic;

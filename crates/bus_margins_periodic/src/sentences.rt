@@ -158,7 +158,7 @@ fn write_sentence<K: Sink>(table: &Table, margins: Margins, sink: &mut K) -> Res
 }
 
 /// Oscillators are off by up to 50 millionths, and nothing else is inexact.
-fn drifting() -> Bounds
+pub fn drifting() -> Bounds
     ensures { result ≡ sentences.drifting }
 {
     match Bounds::new(0, 0, 50) {

@@ -2,14 +2,12 @@
 
 /// The first turn is late, and one behind it is due.
 pub(crate) const LATE: &[u8] =
-    b"terminal #0 may be late by so much that terminal #2 is due before it is heard. It would be enough against that if the shortest \
-    messages from terminal #0 on and before terminal #2 were longer by ~3 in all; something else may lack then.\n";
+    b"terminal #0 may be late by so much that terminal #2 is due before it is heard: there lacks ~3.\n";
 
 /// It is late, and holds another back.
 pub(crate) const HELD: &[u8] =
-    b"terminal #0 may be late, and hold terminal #1 back until terminal #2 is due too. It would be enough against that if the \
-    lengths of the messages from terminal #0 on and before terminal #1 varied by ~3 less in all, or if terminal #1 stood behind \
-    terminal #2 in the order from terminal #0 on; something else may lack then.\n";
+    b"terminal #0 may be late, and hold terminal #1 back until terminal #2 is due too: there lacks ~3. A longer terminal gap of terminal \
+    #2 or a shorter one of terminal #1 may mend that.\n";
 
 /// Sync comes late.
 pub(crate) const WAITING: &[u8] =

@@ -118,7 +118,7 @@ refused_front verdict =
 -- The sentences and advices of `explain`, in place of pictures, and the end of the page.
 abbrev pub refused_end : (program bytes : List ℕ) → TableVerdict → Table → List ℕ
 refused_end program bytes verdict table =
-    refused_text verdict (advices_of table) (periodic_table table) ++ foot_text program bytes
+    refused_text table verdict (advices_of table) (periodic_table table) ++ foot_text program bytes
 
 -- All of it.
 abbrev pub refused_page : (program bytes : List ℕ) → TableVerdict → Table → List ℕ

@@ -1,14 +1,21 @@
 -- Sentences that tell numbers. Each is one text with holes: `#` and a digit stand for a number, `$` and a digit for the `s` of several,
--- `@` and a digit for a time, and `~` and a digit for about such a time. The digit says which number that is, counted from 0.
+-- `@` and a digit for a time, `~` and a digit for about such a time, `^` and a digit for a label, and `_` and a digit for an extension. The
+-- digit says which number that is, counted from 0.
 use Rattle.std.specs.Prelude.{ℕ, ◌-◌, ◌==◌, List, [], ◌∷◌, ◌++◌, codes, decimal, slice_index_or, if◌then◌else◌}
+use Rattle.bus_say.specs.Labels.{extension_text, label_text}
 use Rattle.bus_say.specs.Times.{about_text, time_text}
 use Rattle.bus_say.specs.declared.sentence.Hole.{Hole}
-use Rattle.bus_say.specs.declared.sentence.Hole.TheVariants.{Closed, Number, Plural, Time, About}
+use Rattle.bus_say.specs.declared.sentence.Hole.TheVariants.{Closed, Number, Plural, Time, About, Label, Extension}
 
--- What a byte opens: `#`, `$`, `@` or `~`.
+-- What a byte opens that opens nothing of numbers and times: `^` or `_`.
+abbrev pub label_by : ℕ → Hole
+label_by byte = if byte == 94 then Label else if byte == 95 then Extension else Closed
+
+-- What a byte opens: `#`, `$`, `@` or `~`, `^` or `_`.
 abbrev pub opened_by : ℕ → Hole
 opened_by byte =
-    if byte == 35 then Number else if byte == 36 then Plural else if byte == 64 then Time else if byte == 126 then About else Closed
+    if byte == 35 then Number else if byte == 36 then Plural else if byte == 64 then Time else if byte == 126 then About
+    else label_by byte
 
 -- What is open behind a byte.
 abbrev pub behind : Hole → ℕ → Hole
@@ -17,6 +24,8 @@ behind Number byte = Closed
 behind Plural byte = Closed
 behind Time byte = Closed
 behind About byte = Closed
+behind Label byte = Closed
+behind Extension byte = Closed
 
 -- The number that a digit names, of which `0` is 48.
 abbrev pub named_by : List ℕ → ℕ → ℕ
@@ -29,6 +38,8 @@ unopened Number byte = []
 unopened Plural byte = []
 unopened Time byte = []
 unopened About byte = []
+unopened Label byte = []
+unopened Extension byte = []
 
 abbrev pub letter_text : ℕ → List ℕ
 letter_text byte = unopened (opened_by byte) byte
@@ -44,6 +55,8 @@ told_text numbers Number digit = decimal (named_by numbers digit)
 told_text numbers Plural digit = plural_text (named_by numbers digit)
 told_text numbers Time digit = time_text (named_by numbers digit)
 told_text numbers About digit = about_text (named_by numbers digit)
+told_text numbers Label digit = label_text (named_by numbers digit)
+told_text numbers Extension digit = extension_text (named_by numbers digit)
 
 -- What bytes tell, the first of them where this is open.
 abbrev pub said_from : List ℕ → Hole → List ℕ → List ℕ

@@ -9,6 +9,8 @@
 //! | `$0` | `s`, unless the number is 1: `#0 sender$0` is `1 sender` or `2 senders` |
 //! | `@0` | a time of so many bit times: `1030 bit times (515 µs)` |
 //! | `~0` | about such a time: `about 1030 bit times` |
+//! | `^0` | a label, in three hexadecimal digits: `0A1` |
+//! | `_0` | an extension: its hexadecimal digit, or `*` of a number that has none, for every extension |
 //!
 //! ```
 //! const APART: &[u8] = b"Terminal #0 is @2 from terminal #1.\n";
@@ -16,6 +18,7 @@
 //! ```
 #![tactic(auto)]
 
+mod labels;
 mod sentence;
 mod times;
 

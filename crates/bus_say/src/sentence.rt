@@ -3,6 +3,7 @@ ghost use Rattle.std.specs.Prelude.{◌≡◌, ◌-◌, slice_index_or};
 ghost use Rattle.bus_outer.specs.Texts.{Adds};
 ghost use Rattle.bus_say.specs.Sentences as sentences;
 
+use crate::labels::{put_extension, put_label};
 use crate::times::{put_about, put_time};
 use bus_outer::{Sink, TextBuffer};
 
@@ -19,6 +20,23 @@ pub(crate) enum Hole {
     Time,
     /// The place of about such a time.
     About,
+    /// The place of a label.
+    Label,
+    /// The place of an extension.
+    Extension,
+}
+
+/// What a byte opens that opens nothing of numbers and times.
+fn label_by(byte: u8) -> Hole
+    ensures { result ≡ sentences.label_by byte }
+{
+    if byte == b'^' {
+        Hole::Label
+    } else if byte == b'_' {
+        Hole::Extension
+    } else {
+        Hole::Closed
+    }
 }
 
 /// What a byte opens.
@@ -34,7 +52,7 @@ fn opened_by(byte: u8) -> Hole
     } else if byte == b'~' {
         Hole::About
     } else {
-        Hole::Closed
+        label_by(byte)
     }
 }
 
@@ -44,7 +62,12 @@ fn behind(hole: Hole, byte: u8) -> Hole
 {
     match hole {
         Hole::Closed => opened_by(byte),
-        Hole::Number | Hole::Plural | Hole::Time | Hole::About => Hole::Closed,
+        Hole::Number
+        | Hole::Plural
+        | Hole::Time
+        | Hole::About
+        | Hole::Label
+        | Hole::Extension => Hole::Closed,
     }
 }
 
@@ -64,7 +87,12 @@ fn put_letter<K: Sink>(text: &mut TextBuffer, sink: &mut K, byte: u8)
 {
     match opened_by(byte) {
         Hole::Closed => text.put_byte(sink, byte),
-        Hole::Number | Hole::Plural | Hole::Time | Hole::About => text.put(sink, b""),
+        Hole::Number
+        | Hole::Plural
+        | Hole::Time
+        | Hole::About
+        | Hole::Label
+        | Hole::Extension => text.put(sink, b""),
     }
 }
 
@@ -89,6 +117,8 @@ fn put_told<K: Sink>(text: &mut TextBuffer, sink: &mut K, numbers: &[u128], hole
         Hole::Plural => put_plural(text, sink, named_by(numbers, byte)),
         Hole::Time => put_time(text, sink, named_by(numbers, byte)),
         Hole::About => put_about(text, sink, named_by(numbers, byte)),
+        Hole::Label => put_label(text, sink, named_by(numbers, byte)),
+        Hole::Extension => put_extension(text, sink, named_by(numbers, byte)),
     }
 }
 

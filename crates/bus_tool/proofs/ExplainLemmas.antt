@@ -44,7 +44,8 @@ use Rattle.bus_tool.specs.Causes.{Cause, EndIs}
 use Rattle.bus_tool.specs.Due.{text_outcome, verdict_outcome, explain_answer}
 use Rattle.bus_tool.specs.Answering.{Answers, IsTextOf}
 use Rattle.bus_tool.specs.Asking.{IsOfText}
-use Rattle.bus_tool.specs.ExplainClaims.{ExplainsAccepted, AdvisesRefused, ExplainsText, StartsBehind}
+use Rattle.bus_feeds.specs.FeedLaws.{UnfedGivesNothing, EachLineIsFed, EachFeedGives}
+use Rattle.bus_tool.specs.ExplainClaims.{ExplainsAccepted, AdvisesRefused, ExplainsText, StartsBehind, TellsTakes}
 use Rattle.bus_tool.specs.Replies.{Is, TheExplanation, yes_or_no}
 use Rattle.bus_tool.specs.Explanations.{answer_explained, explanation, refused_as, table_explained, verdict_explained}
 use Rattle.bus_tool.specs.Forms.{Explain, form_of}
@@ -56,6 +57,7 @@ use Rattle.bus_cable_plan.specs.Meaning.{MostBorneIsRight}
 use Rattle.bus_margins_periodic.specs.Sentences.{drifting}
 use Rattle.bus_tool.specs.ToleranceClaims.{SettlesFromAnyStart}
 use Rattle.bus_tool.proofs.BorneLemmas.{TurnsLaws, tells_turns}
+use Rattle.bus_tool.proofs.MarginsClaim.{MarginsLaws, tells_margins}
 use Rattle.bus_tool.proofs.ReplyLemmas.{is_text, text_status, with_status}
 use Rattle.bus_tool.proofs.ToleranceClaim.{ToleranceLaws, starts_from, tells}
 
@@ -145,7 +147,11 @@ pub record ExplainLaws : Type 0 where
   pub runs : AcceptedIsClosed
   pub early : ShortCyclesStartEarly
   pub stops : WhatMayStandGoesOn
+  pub unfed : UnfedGivesNothing
+  pub fed : EachLineIsFed
+  pub gives : EachFeedGives
   pub drift : TurnsLaws
+  pub margins : MarginsLaws
   pub offsets : MostBorneIsRight
   pub reach : ToleranceLaws
 
@@ -184,6 +190,7 @@ tells_accepted laws table valid accepted = record {
   tolerance = tells laws.reach table valid accepted;
   offsets = λ mode d is. laws.offsets d table valid mode is;
   drifting = λ mode. tells_turns laws.drift drifting table (record { range = drifting_range; valid = valid; mode = mode });
+  keeping = λ mode. tells_margins laws.margins drifting table drifting_range (record { valid = valid; mode = mode });
   collides = λ mode never. laws.never table valid mode never;
   work = λ advice is. laws.works table advice valid is;
   settles = λ ti is. settles_with laws table ti (laws.works table (Start ti) valid is);
@@ -195,6 +202,13 @@ tells_refused laws table valid refused = record {
   early = λ mode. laws.early table valid mode refused;
   work = λ advice is. laws.works table advice valid is;
   whole = laws.whole table valid refused;
+}
+
+pub tells_takes : ExplainLaws → (table : Table) → TellsTakes table
+tells_takes laws table = record {
+  nothing = λ list number take fit unfed. laws.unfed table list number take fit unfed;
+  words = λ list taker line fit i. laws.fed table list taker line fit i;
+  gives = laws.gives;
 }
 
 pub explain_claim : ExplainLaws → (call : Call) (outcome : Outcome) (text : List ℕ) → Acts call outcome → IsOfText (codes "explain") text call
@@ -209,6 +223,7 @@ explain_claim laws call outcome text acts h = (
   record {
     accepted = λ table valid accepted. tells_accepted laws table valid accepted;
     refused = λ table valid refused. tells_refused laws table valid refused;
+    takes = λ table valid. tells_takes laws table;
     unread = λ refusal is. laws.stops text refusal is;
   },
 )

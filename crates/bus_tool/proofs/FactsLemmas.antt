@@ -30,8 +30,8 @@ use Rattle.bus_tool.specs.Forms.{Facts, form_of}
 use Rattle.bus_tool.specs.Refusals.{Outcome, ToolRefusal, ends_of, status_of}
 use Rattle.bus_tool.specs.Replies.{Is, TheFacts, yes_or_no}
 use Rattle.bus_tool.specs.Texts.{AreFacts}
-use Rattle.bus_tool.proofs.ExplainLemmas.{ExplainLaws, drifting_range, explained, tells_accepted, tells_refused}
-use Rattle.bus_tool.proofs.MarginsClaim.{MarginsLaws, tells_margins}
+use Rattle.bus_tool.proofs.ExplainLemmas.{ExplainLaws, drifting_range, explained, tells_accepted, tells_refused, tells_takes}
+use Rattle.bus_tool.proofs.MarginsClaim.{tells_margins}
 use Rattle.bus_tool.proofs.ReplyLemmas.{is_text, text_status, with_status}
 
 verdict_is : (verdict : TableVerdict) → cond (is_accepted verdict) Done Answered ≡ verdict_outcome verdict
@@ -61,7 +61,6 @@ pub record FactsLaws : Type 0 where
   pub limits : LimitsTellBearing
   pub in_time : AperiodicAreInTime
   pub periodic_in_time : PeriodicAreInTime
-  pub margins : MarginsLaws
 
 tells : ExplainLaws → FactsLaws → (text : List ℕ) → TellsFacts text
 tells laws facts text = record {
@@ -69,8 +68,9 @@ tells laws facts text = record {
   rules = λ table d valid accepted. facts.limits table d valid accepted;
   in_time = facts.in_time;
   periodic_in_time = facts.periodic_in_time;
-  drifting = λ table valid accepted mode. tells_margins facts.margins drifting table drifting_range (record { valid = valid; mode = mode });
+  drifting = λ table valid accepted mode. tells_margins laws.margins drifting table drifting_range (record { valid = valid; mode = mode });
   refused = λ table valid refused. tells_refused laws table valid refused;
+  takes = λ table valid. tells_takes laws table;
   unread = λ refusal is. laws.stops text refusal is;
 }
 

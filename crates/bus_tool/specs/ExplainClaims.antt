@@ -1,9 +1,11 @@
 -- What is claimed of `explain`: what its numbers and its advices mean.
-use Rattle.std.specs.Prelude.{◌≡◌, ℕ, ◌+◌, ◌≤◌, false, IsTrue, List, slice_get, Some, Err}
+use Rattle.std.specs.Prelude.{◌≡◌, ℕ, ◌+◌, ◌≤◌, false, IsTrue, List, [], ◌∷◌, slice_get, Some, Err}
+use Rattle.std.specs.List.{All, Contains}
 use Rattle.bus_text.specs.Refusals.{Refusal}
 use Rattle.bus_strings.specs.Members.{In}
 use Rattle.bus_strings.specs.Messages.{Entry}
 use Rattle.bus_strings.specs.Transmissions.{end_of}
+use Rattle.bus_table.specs.declared.line.TakeLine.{TakeLine}
 use Rattle.bus_table.specs.declared.mode.Mode.TheVariants.{Aperiodic, Periodic}
 use Rattle.bus_table.specs.GoingOn.{GoesOnAsTold}
 use Rattle.bus_table.specs.Reading.{text_reading}
@@ -22,13 +24,16 @@ use Rattle.bus_schedule.specs.Closed.{closed}
 use Rattle.bus_schedule.specs.Even.{are_even}
 use Rattle.bus_schedule.specs.Laws.{StartsTooEarly}
 use Rattle.bus_schedule.specs.Runs.{IsRun}
+use Rattle.bus_filter.specs.Received.{ReceivedLine, Taker, received_by}
+use Rattle.bus_feeds.specs.FeedLaws.{FitsTable, IsFedLine, EachFeedGives, taker_of}
+use Rattle.bus_feeds.specs.Feeds.{is_fed}
 use Rattle.bus_explain.specs.Accepted.{IsAcceptedWith}
 use Rattle.bus_explain.specs.Figures.{gap_bits, spare}
 use Rattle.bus_explain.specs.Laws.{IsGapTold, IsLoadOf, IsSpare}
 use Rattle.bus_cable_plan.specs.Answers.{most_borne_of}
 use Rattle.bus_cable_plan.specs.Meaning.{IsPlanOf, NoneBear}
 use Rattle.bus_margins_periodic.specs.Sentences.{drifting}
-use Rattle.bus_tool.specs.MarginsClaims.{TellsTurns}
+use Rattle.bus_tool.specs.MarginsClaims.{TellsMargins, TellsTurns}
 use Rattle.bus_tool.specs.ToleranceClaims.{SettlesFromAnyStart, TellsTolerance}
 
 -- A sender of a periodic table starts behind the gap that is told of it: in the closed schedule of any even hands, at least so many bit
@@ -47,6 +52,7 @@ pub record StartsBehind (table : Table) (gap : Gap) : Type 0 where
 --   tolerance   as the tolerance line tells it
 --   offsets     where it is periodic, some offsets bear the delay that is told to be the greatest, and none bear more
 --   drifting    where it is periodic and oscillators are off by up to 50 millionths, its senders keep their turns as that sentence tells it
+--   keeping     where it is aperiodic, its order comes or stands then as its sentence tells it
 --   collides    where it is aperiodic and never parts, its senders can collide in every cycle, for ever
 --   work        with the advised transmit interval it is accepted and starts itself, and with no greater one
 --   settles     so that, with that, its order comes about from any start
@@ -60,6 +66,7 @@ pub record ExplainsAccepted (table : Table) : Type 0 where
   pub offsets : table.mode ≡ Periodic → (d : ℕ) → most_borne_of table ≡ Some d
       → ((made : Table) × IsPlanOf d table made) × NoneBear (d + 1) table
   pub drifting : table.mode ≡ Periodic → TellsTurns drifting table
+  pub keeping : table.mode ≡ Aperiodic → TellsMargins drifting table
   pub collides : table.mode ≡ Aperiodic → IsTrue (never_parts table) → CollideForEver table
   pub work : (advice : Advice) → In advice (advices_of table) → AdviceWorks table advice
   pub settles : (ti : ℕ) → In (Start ti) (advices_of table) → SettlesFromAnyStart (with_interval ti table)
@@ -76,11 +83,24 @@ pub record AdvisesRefused (table : Table) : Type 0 where
   pub work : (advice : Advice) → In advice (advices_of table) → AdviceWorks table advice
   pub whole : AreComplete table (advices_of table)
 
+-- What is told of the TAKE lines of a table means, for every list whose transmissions fit it:
+--   nothing   of a TAKE line that nothing feeds its terminal receives nothing
+--   words     each line that a terminal receives is of a SEND line that feeds it, with all words that always come and none that never comes
+--   gives     each transmission that a terminal hears gives all that always comes, of each TAKE line that it feeds
+pub record TellsTakes (table : Table) : Type 0 where
+  pub nothing : (list : List Entry) (number : ℕ) (take : TakeLine) → All (FitsTable table) list → is_fed table number take ≡ false
+      → received_by list (taker_of number (take ∷ [])) ≡ []
+  pub words : (list : List Entry) (taker : Taker) (line : ReceivedLine) → All (FitsTable table) list → Contains (received_by list taker) line
+      → IsFedLine table list taker line
+  pub gives : EachFeedGives
+
 -- What the explanation of a text tells:
 --   accepted   of an accepted table, as above
 --   refused    of a refused one
+--   takes      what is odd about the lines of a valid one, as above
 --   unread     what it lists as what may stand at a refused line is exactly what goes on
 pub record ExplainsText (text : List ℕ) : Type 0 where
   pub accepted : (table : Table) → IsTrue (is_valid table) → IsTrue (is_accepted (verdict_of table)) → ExplainsAccepted table
   pub refused : (table : Table) → IsTrue (is_valid table) → is_accepted (verdict_of table) ≡ false → AdvisesRefused table
+  pub takes : (table : Table) → IsTrue (is_valid table) → TellsTakes table
   pub unread : (refusal : Refusal) → text_reading text ≡ Err refusal → GoesOnAsTold text refusal.line

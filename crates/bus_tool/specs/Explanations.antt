@@ -23,9 +23,10 @@ accepted_as table least most =
     accepted_text table least most (tolerance_of table) (advices_of table)
     ++ beyond_text (most_borne_of table) table
 
--- What is written of a table that this verdict refuses: why, with the advices on it, and the table that one of them plans.
+-- What is written of a table that this verdict refuses: why, with the advices on it, what is odd about its lines, and the table that one of
+-- the advices plans.
 abbrev pub refused_as : TableVerdict → Table → List ℕ
-refused_as verdict table = refused_text verdict (advices_of table) (periodic_table table)
+refused_as verdict table = refused_text table verdict (advices_of table) (periodic_table table)
 
 -- What is written of a table with this verdict.
 abbrev pub verdict_explained : TableVerdict → Table → List ℕ

@@ -12,7 +12,7 @@ use Rattle.bus_reach.specs.Bearing.{bears}
 use Rattle.bus_reach.specs.LatencyLaws.{AperiodicAreInTime, PeriodicAreInTime}
 use Rattle.bus_reach.specs.Limits.{limits_of, is_borne}
 use Rattle.bus_margins_periodic.specs.Sentences.{drifting}
-use Rattle.bus_tool.specs.ExplainClaims.{ExplainsAccepted, AdvisesRefused}
+use Rattle.bus_tool.specs.ExplainClaims.{ExplainsAccepted, AdvisesRefused, TellsTakes}
 use Rattle.bus_tool.specs.MarginsClaims.{TellsMargins}
 
 -- What the facts of a text tell of a valid table:
@@ -22,6 +22,7 @@ use Rattle.bus_tool.specs.MarginsClaims.{TellsMargins}
 --   periodic_in_time   and in periodic mode
 --   drifting           an aperiodic one keeps order as its level says where oscillators are off by up to 50 millionths
 --   refused            of a refused one, what `explain` advises
+--   takes              what its TAKE lines are told to receive
 --   unread             what is listed as what may stand at a refused line is exactly what goes on
 pub record TellsFacts (text : List ℕ) : Type 0 where
   pub accepted : (table : Table) → IsTrue (is_valid table) → IsTrue (is_accepted (verdict_of table)) → ExplainsAccepted table
@@ -32,4 +33,5 @@ pub record TellsFacts (text : List ℕ) : Type 0 where
   pub drifting : (table : Table) → IsTrue (is_valid table) → IsTrue (is_accepted (verdict_of table)) → table.mode ≡ Aperiodic
       → TellsMargins drifting table
   pub refused : (table : Table) → IsTrue (is_valid table) → is_accepted (verdict_of table) ≡ false → AdvisesRefused table
+  pub takes : (table : Table) → IsTrue (is_valid table) → TellsTakes table
   pub unread : (refusal : Refusal) → text_reading text ≡ Err refusal → GoesOnAsTold text refusal.line

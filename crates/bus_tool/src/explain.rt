@@ -135,7 +135,7 @@ fn explain_advised<K: Sink>(
 {
     match periodic_table(alloc, table, verdict) {
         Ok(planned) => after_writing(
-            write_refused(verdict, advices, &planned, out),
+            write_refused(table, verdict, advices, &planned, out),
             Outcome::Answered,
         ),
         Err(_) => Outcome::NoMemory,

@@ -14,6 +14,7 @@ use bus_diagnosis::laws::{
 };
 use bus_exact::laws::any_start_settles_on_cable;
 use bus_explain::laws::{gaps_are_told, load_is_of_longest_cycle, spare_is_fall, spare_is_rise};
+use bus_feeds::laws::{each_feed_gives, each_line_is_fed, unfed_is_silent};
 use bus_findings::laws::{
     amounts_are_meant, faults_are_just, files_are_unblamed, good_buses_have_no_fault,
 };
@@ -112,6 +113,9 @@ pub fn tool<S: Source, K: Sink, E: Sink>(
     gaps_are_left();
     accepted_is_closed();
     what_may_stand_goes_on();
+    unfed_is_silent();
+    each_line_is_fed();
+    each_feed_gives();
     texts_read_as_their_cables();
     one_cable_list();
     borne_is_orderly();

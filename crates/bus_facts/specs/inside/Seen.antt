@@ -21,6 +21,7 @@ seen figures = record {
   spare = view figures.spare;
   tolerance = view figures.tolerance;
   senders = view figures.senders;
+  takes = view figures.takes;
 }
 
 -- The members that are told of a table before its mode.

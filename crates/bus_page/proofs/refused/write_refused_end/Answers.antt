@@ -19,7 +19,7 @@ pub returns : goal.returns
 returns g c =
     let table = c.args.table.now in
     let refusal = c.args.refusal.now in
-    let told = refused_text refusal.verdict in
+    let told = refused_text table refusal.verdict in
     let is = ap (λ (l : List Advice). told l refusal.planned) (c.deref.ensures.value ∙ c.requires.advices) ∙ ap (λ (t : Option Table). told (advices_of table) t) c.requires.planned in
     let ok : Result (Unit {0}) Fault = Ok c.in_ok-write_refused.field-0 in
     writes_then g.K.Sink.held g.K.Sink.faults c.args.sink.now c.write_refused.new.sink c.write_foot.new.sink c.in_ok-write_refused.field-0 c.write_foot.result
@@ -31,7 +31,7 @@ pub returns-in_err-write_refused : goal.returns-in_err-write_refused
 returns-in_err-write_refused g c =
     let table = c.args.table.now in
     let refusal = c.args.refusal.now in
-    let told = refused_text refusal.verdict in
+    let told = refused_text table refusal.verdict in
     let is = ap (λ (l : List Advice). told l refusal.planned) (c.deref.ensures.value ∙ c.requires.advices) ∙ ap (λ (t : Option Table). told (advices_of table) t) c.requires.planned in
     let cut : Result (Unit {0}) Fault = Err c.in_err-write_refused.field-0.0 in
     text_cut g.K.Sink c.args.sink.now c.write_refused.new.sink c.in_err-write_refused.field-0.0 c.from_residual.result

@@ -1,0 +1,17 @@
+use Rattle.std.proofs.Common.{List, ℕ, sym, ap, ◌∙◌, subst, arith}
+use Rattle.std.proofs.lemmas.Grind.{common_steps}
+use Rattle.bus_outer.specs.Texts.{Adds}
+use Rattle.bus_outer.proofs.TextLaws.{◌▸◌}
+use Rattle.bus_table.specs.declared.line.TakeLine.{TakeLine}
+use Rattle.bus_takes.specs.Takes.{of_sender, taker_text}
+use Rattle.bus_strings.proofs.ListLaws.{flat_map-take}
+use Rattle.bus_takes.proofs.takes.put_of_senders.Goals as goal
+
+pub loop-sender-preserved : goal.loop-sender-preserved
+loop-sender-preserved g c =
+    let next = flat_map-take (of_sender c.args.table.now) c.args.senders.now c.loop-sender.sender-index c.sender-item.result c.loop-sender-test.true c.sender-item.is in
+    subst (λ (t : List ℕ). Adds g.K.Sink.held g.K.Sink.faults c.args.sink.now c.put_lines.new.sink c.args.text.now c.put_lines.new.text t) (sym next)
+    (c.loop-sender.invariant ▸ subst (λ (t : List ℕ). Adds g.K.Sink.held g.K.Sink.faults c.loop-sender.sink c.put_lines.new.sink c.loop-sender.text c.put_lines.new.text t) (ap (λ (n : ℕ). taker_text c.args.table.now (record { number = n; takes = c.takes.result.now })) c.number.ensures.value ∙ ap (λ (ts : List TakeLine). taker_text c.args.table.now (record { number = c.sender-item.result.number; takes = ts })) c.takes.ensures.value) c.put_lines.ensures)
+
+pub returns : goal.returns
+returns g c = grind (arith, common_steps)
