@@ -17,4 +17,3 @@ pub mod TracedLemmas
 pub mod FollowedLemmas
 pub mod ToldLemmas
 pub mod ClaimLemmas
-pub mod BoundingLaws

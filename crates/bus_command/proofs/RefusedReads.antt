@@ -1,5 +1,5 @@
 -- What bytes read as that were taken of a trace text which is refused.
-use Rattle.std.specs.Prelude.{◌≡◌, ℕ, ◌≤◌, List, [], ◌++◌, length, Option, Err}
+use Rattle.std.specs.Prelude.{◌≡◌, ℕ, ◌≤◌, List, ◌++◌, length, Option, Err}
 use Rattle.std.proofs.Common.{arith, sym, ap, ◌∙◌}
 use Rattle.bus_trace.specs.declared.fault.TraceError.TheVariants.{Text}
 use Rattle.bus_trace.specs.declared.reason.TraceReason.{TraceReason}

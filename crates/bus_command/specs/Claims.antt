@@ -1,6 +1,7 @@
 -- How a call is told whose texts are right, and what it answers: by the relation between a value and its texts, not by how they are read.
 use Rattle.std.specs.Prelude.{◌≡◌, ℕ, ◌≤◌, IsTrue, List, [], ◌∷◌, length, Option, Some, None, Ok, ◌⊎◌}
 use Rattle.std.specs.Io.KnownBytes.{append_known}
+use Rattle.bus_options.specs.Options.{ArePlain}
 use Rattle.bus_outer.specs.Faults.{Rose}
 use Rattle.bus_strings.specs.Items.{Item}
 use Rattle.bus_strings.specs.Grammar.{IsMessagesText}
@@ -60,15 +61,17 @@ pub record Refuses (refusal : Status) (call : Call) (status : Status) : Type 0 w
   pub unwritten : call.after.out.bytes ≡ call.before.out.bytes
 
 -- ---- the calls of a group
--- The words are a command and one more.
+-- The words are a command and one more, which isn't an option.
 pub record IsFormOfOne (command : List ℕ) (words : List (List ℕ)) : Type 0 where
   pub path : List ℕ
+  pub plain : ArePlain (command ∷ path ∷ [])
   pub form : words ≡ command ∷ path ∷ []
 
--- The words are a command, two more, and these behind them.
+-- The words are a command, two more, which aren't options, and these behind them.
 pub record IsFormOfTwo (command : List ℕ) (further words : List (List ℕ)) : Type 0 where
   pub first : List ℕ
   pub second : List ℕ
+  pub plain : ArePlain (command ∷ first ∷ second ∷ [])
   pub form : words ≡ command ∷ first ∷ second ∷ further
 
 -- A call of a command on a text of a valid table, in which nothing outside fails.

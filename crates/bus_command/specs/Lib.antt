@@ -1,7 +1,6 @@
 -- What the contracts of this crate cite.
 pub mod Statuses
 pub mod Words
-pub mod Bounding
 pub mod Kinds
 pub mod Outcomes
 pub mod Outside

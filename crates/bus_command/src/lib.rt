@@ -4,7 +4,7 @@
 //! An [`Outcome`] is what a command came to; what only one program refuses is its parameter, a [`Refusal`]. [`outcome_text`] writes its
 //! line, and [`Status`] is how the program ends. [`take_table`], [`take_hands`], [`take_trace`] and [`take_traced`] are the steps by which
 //! a command takes its texts, and [`after_writing`] is what it comes to once its answer is written. [`About`] is what a program tells of
-//! itself. [`number_of`], [`bounds_of`] and [`near_bounds_of`] read the words of numbers. Around its command a program gathers its
+//! itself. What stands behind the plain words is read by `bus_options`. Around its command a program gathers its
 //! [`words`], makes the files that they name into [`FileSources`], and ends with a number, [`exit_number`].
 //!
 //! `specs/Acts` says what a command does to the outside, `specs/Due` what is due of both texts, and `specs/Claims` how texts that are right
@@ -54,7 +54,6 @@
 #![tactic(auto)]
 
 mod about;
-mod bounding;
 mod fates;
 mod fault_line;
 mod gathering;
@@ -68,7 +67,6 @@ mod status;
 mod writing;
 
 pub use about::{About, about_of, tell};
-pub use bounding::{bounds_of, near_bounds_of, number_of};
 pub use fates::exit_number;
 pub use fault_line::{outcome_text, put_error};
 pub use gathering::words;

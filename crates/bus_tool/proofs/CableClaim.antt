@@ -41,7 +41,8 @@ use Rattle.bus_tool.specs.Answering.{Answers, IsTextOf}
 use Rattle.bus_tool.specs.Asking.{IsCableOf}
 use Rattle.bus_tool.specs.CableClaims.{IsPlain, IsInOrder, IsTheTraceOnCable}
 use Rattle.bus_tool.specs.Due.{CableInputs, cable_answer, cable_due}
-use Rattle.bus_tool.specs.Forms.{Cable as OnCable, form_of, four_words}
+use Rattle.bus_tool.specs.Forms.{Cable as OnCable, four_words, no_options}
+use Rattle.bus_tool.proofs.FormLemmas.{decimal_plain, of_plain, plain_with}
 use Rattle.bus_tool.specs.Refusals.{Outcome, ToolRefusal, ends_of, status_of}
 use Rattle.bus_tool.specs.Replies.{OnTheCable, hearings_of}
 use Rattle.bus_tool.specs.Texts.{IsOnCable, IsOnCableText, IsCableAnswerText}
@@ -61,7 +62,7 @@ pub record CableClaimLaws : Type 0 where
 
 -- the words are the form
 cable_form : (number : List ℕ) (horizon : ℕ) → IsDecimal number horizon → horizon ≤ horizon_limit
-    → four_words (codes "cable") number ≡ Some (OnCable horizon)
+    → four_words (codes "cable") number no_options ≡ Some (OnCable horizon)
 cable_form number horizon d within =
     let plain : is_plain_decimal number ≡ true = d.plain in
     let low : nat_le (decimal_value number) horizon_limit ≡ true = grind (arith, nat_tests, d.value) in
@@ -192,4 +193,6 @@ cable_claim laws call outcome table cable items horizon acts h =
     (IsTextOf (IsTheTraceOnCable table cable (hands_of table items) horizon)) call outcome
     (at_two entire entire call.before.sources first second h.table_told.told h.cable_told.told) due refl
     (λ text is. text_of laws table cable items second horizon text h.table_told.valid h.cable_told.stands h.cable_told.short h.cable_told.fit h.within is)
-    (does_of tool_program call outcome (OnCable horizon) (ap form_of h.form.form ∙ cable_form h.number horizon h.spelled h.within) acts) h.undisturbed
+    (does_of tool_program call outcome (OnCable horizon) (of_plain (codes "cable") h.form.first (h.form.second ∷ h.number ∷ []) call.words h.form.form
+    (plain_with (codes "cable") h.form.first h.form.second (h.number ∷ []) h.form.plain (decimal_plain h.number h.spelled.plain, tt))
+    ∙ cable_form h.number horizon h.spelled h.within) acts) h.undisturbed

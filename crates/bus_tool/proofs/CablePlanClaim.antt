@@ -21,7 +21,8 @@ use Rattle.bus_tool.specs.Acts.{Acts}
 use Rattle.bus_tool.specs.Answering.{Answers, IsTextOf}
 use Rattle.bus_tool.specs.Asking.{IsPlanForOf, IsPlanBestOf}
 use Rattle.bus_tool.specs.CablePlanClaims.{StandsWherePlanned, is_planned, plan_reply}
-use Rattle.bus_tool.specs.Forms.{OnTable, PlanFor, Bits, Greatest, form_of, is_within, plan_for}
+use Rattle.bus_tool.specs.Forms.{OnTable, PlanFor, Bits, Greatest, form_of, plan_bits, plan_by, plan_for}
+use Rattle.bus_tool.proofs.FormLemmas.{front_two, of_plain, with_options}
 use Rattle.bus_tool.specs.PlanTexts.{cable_plan_text}
 use Rattle.bus_tool.specs.Refusals.{Outcome, status_of}
 use Rattle.bus_tool.specs.Replies.{Is, yes_or_no}
@@ -35,20 +36,16 @@ pub record CablePlanLaws : Type 0 where
   pub best : BestIsRight
 
 -- ---- the words
-within_is : (limit n : ℕ) (word : List ℕ) → IsDecimal word n → n ≤ limit → is_within limit word ≡ true
-within_is limit n word d low =
-    let tested : nat_le (decimal_value word) limit ≡ true = grind (arith, nat_tests, d.value) in
-    ap (λ b. b && nat_le (decimal_value word) limit) d.plain ∙ tested
-
 for_form : (d : ℕ) (table : Table) (call : Call) → IsPlanForOf d table call → form_of call.words ≡ Some (OnTable (PlanFor (Bits d)))
 for_form d table call h =
-    ap form_of h.form
-    ∙ ap (λ b. option_map plan_for (cond b (Some (Bits (decimal_value h.word))) (cond (bytes_eq h.word (codes "best")) (Some Greatest) None)))
-    (within_is most_ti d h.word h.delay_is h.within)
-    ∙ ap (λ n. Some (plan_for (Bits n))) h.delay_is.value
+    let low : nat_le d most_ti ≡ true = (let within = h.within in grind (arith, nat_tests)) in
+    with_options (codes "plan") h.path h.behind call.words (record { plain = 2; options = h.options }) h.form h.given.line
+    ∙ front_two (codes "plan") h.path h.behind h.options
+    ∙ ap (λ b. cond b (plan_by h.options.delay) None) h.given.taken ∙ ap plan_by h.asked ∙ ap plan_bits h.delay_is
+    ∙ ap (λ b. cond b (Some (plan_for (Bits d))) None) low
 
 best_form : (table : Table) (call : Call) → IsPlanBestOf table call → form_of call.words ≡ Some (OnTable (PlanFor Greatest))
-best_form table call h = ap form_of h.form
+best_form table call h = of_plain (codes "plan") h.path (codes "best" ∷ []) call.words h.form (refl, (h.plain, (refl, tt)))
 
 -- ---- the text of a planned table stands for it
 plan_stands : CablePlanLaws → (d : ℕ) (table made : Table) → IsPlanOf d table made → IsTableText made (table_text made)

@@ -43,7 +43,8 @@ use Rattle.bus_tool.specs.Replies.{Is, TheDiagnosis, yes_or_no}
 use Rattle.bus_tool.proofs.ReplyLemmas.{beside_status, is_text, with_status}
 use Rattle.bus_tool.specs.Due.{verdict_outcome}
 use Rattle.bus_tool.specs.Explanations.{table_explained}
-use Rattle.bus_tool.specs.Forms.{ExplainBeside, entire_beside, form_of}
+use Rattle.bus_tool.specs.Forms.{ExplainBeside, entire_beside}
+use Rattle.bus_tool.proofs.FormLemmas.{of_plain}
 use Rattle.bus_tool.specs.Refusals.{Outcome, ToolRefusal, ends_of, status_of}
 use Rattle.bus_tool.specs.declared.beside.Texts.{Texts}
 use Rattle.bus_tool.specs.inside.TakenBeside.{AreTaken}
@@ -243,7 +244,7 @@ diagnosis_claim laws call outcome table text acts h =
           (claimed ends_of beside_answer IsToldBeside (two_sources entire entire_beside) (λ t. refusal_in (text_due 1 t)) beside_due table text (beside table text)
           (IsTextOf (Is (TheDiagnosis table text))) call outcome (at_two entire entire_beside call.before.sources table text h.table_told h.text_told) due
           (beside_written (beside table text)) (λ written is. is_text (TheDiagnosis table text) (beside_told (beside table text)) written tt refl is)
-          (does_of tool_program call outcome ExplainBeside (ap form_of h.form.form) acts) h.undisturbed),
+          (does_of tool_program call outcome ExplainBeside (of_plain (codes "explain") h.form.first (h.form.second ∷ []) call.words h.form.form h.form.plain) acts) h.undisturbed),
       (λ valid is accepted. record {
         runs = λ rounds senders end found. laws.runs valid text rounds senders end is found;
         unfit = λ unfit found. laws.first valid text unfit found;

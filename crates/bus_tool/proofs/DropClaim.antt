@@ -65,5 +65,5 @@ drop_claim laws give call outcome table items acts call_is aperiodic accepted lo
     let h : IsDropOf table items call = record { call_is = call_is; aperiodic = aperiodic; accepted = accepted; long = long; short = short } in
     let can = can_be_dropped table (hands_of table items) (may_be_dropped table (hands_of table items) h.accepted h.long) h.short in
     subst (λ o. Answers call (status_of outcome) (status_of o) (IsTheDrop table (hands_of table items))) (ap (outcome_with done_with) can)
-    (messages_comes laws Drop (codes "drop") [] call outcome table items (IsTextOf (IsTheDrop table (hands_of table items))) (λ a b. refl) h.aperiodic
+    (messages_comes laws Drop (codes "drop") [] call outcome table items (IsTextOf (IsTheDrop table (hands_of table items))) tt (λ a b. refl) h.aperiodic
     (ap (λ r. kind_of (outcome_with done_with r)) can) (λ text is. the_drop give table items call text h is) acts h.call_is)

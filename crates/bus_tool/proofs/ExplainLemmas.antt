@@ -48,7 +48,8 @@ use Rattle.bus_feeds.specs.FeedLaws.{UnfedGivesNothing, EachLineIsFed, EachFeedG
 use Rattle.bus_tool.specs.ExplainClaims.{ExplainsAccepted, AdvisesRefused, ExplainsText, StartsBehind, TellsTakes}
 use Rattle.bus_tool.specs.Replies.{Is, TheExplanation, yes_or_no}
 use Rattle.bus_tool.specs.Explanations.{answer_explained, explanation, refused_as, table_explained, verdict_explained}
-use Rattle.bus_tool.specs.Forms.{Explain, form_of}
+use Rattle.bus_tool.specs.Forms.{Explain}
+use Rattle.bus_tool.proofs.FormLemmas.{of_plain}
 use Rattle.bus_tool.specs.Refusals.{Outcome, ToolRefusal, ends_of, status_of}
 use Rattle.bus_tool.specs.Texts.{IsExplanation}
 use Rattle.bus_tool.proofs.AnswerLaws.{written_verdict}
@@ -219,7 +220,7 @@ explain_claim laws call outcome text acts h = (
       text [] text (IsTextOf (Is (TheExplanation text))) call outcome (at_one entire call.before.sources text h.told)
       (short_text {R = ToolRefusal} text_limit 1 text h.short) (explained text)
       (λ written is. is_text (TheExplanation text) (explanation text) written tt refl is)
-      (does_of tool_program call outcome Explain (ap form_of h.form.form) acts) h.undisturbed),
+      (does_of tool_program call outcome Explain (of_plain (codes "explain") h.form.path [] call.words h.form.form h.form.plain) acts) h.undisturbed),
   record {
     accepted = λ table valid accepted. tells_accepted laws table valid accepted;
     refused = λ table valid refused. tells_refused laws table valid refused;

@@ -26,7 +26,8 @@ use Rattle.bus_tool.specs.Due.{text_outcome, verdict_outcome, explain_answer}
 use Rattle.bus_tool.specs.Answering.{Answers, IsTextOf}
 use Rattle.bus_tool.specs.Asking.{IsOfText}
 use Rattle.bus_tool.specs.FactsClaims.{TellsFacts}
-use Rattle.bus_tool.specs.Forms.{Facts, form_of}
+use Rattle.bus_tool.specs.Forms.{Facts}
+use Rattle.bus_tool.proofs.FormLemmas.{of_plain}
 use Rattle.bus_tool.specs.Refusals.{Outcome, ToolRefusal, ends_of, status_of}
 use Rattle.bus_tool.specs.Replies.{Is, TheFacts, yes_or_no}
 use Rattle.bus_tool.specs.Texts.{AreFacts}
@@ -81,6 +82,6 @@ facts_claim laws facts call outcome text acts h = (
       (claimed ends_of explain_answer AreFacts (one_source entire) (λ first. refusal_in (text_due 1 first)) (λ a b. text_due 1 a)
       text [] text (IsTextOf (Is (TheFacts text))) call outcome (at_one entire call.before.sources text h.told)
       (short_text {R = ToolRefusal} text_limit 1 text h.short) (explained text) (λ written is. is_text (TheFacts text) (facts_text text) written tt refl is)
-      (does_of tool_program call outcome Facts (ap form_of h.form.form) acts) h.undisturbed),
+      (does_of tool_program call outcome Facts (of_plain (codes "facts") h.form.path [] call.words h.form.form h.form.plain) acts) h.undisturbed),
   tells laws facts text,
 )

@@ -14,7 +14,8 @@ use Rattle.bus_tool.specs.Acts.{Acts}
 use Rattle.bus_tool.specs.Answering.{Answers}
 use Rattle.bus_tool.specs.Asking.{IsDiagnoseOf}
 use Rattle.bus_tool.specs.FindingsClaims.{AreTrue, TellsFindings}
-use Rattle.bus_tool.specs.Forms.{Form, OnTrace, Diagnose, form_of, is_within, are_near_bounds, bounds_of, most_near_delay, most_near_jitter}
+use Rattle.bus_tool.specs.Forms.{OnTrace, Diagnose, diagnose_by, form_of, near_bounds_of}
+use Rattle.bus_tool.proofs.FormLemmas.{front_three, with_options}
 use Rattle.bus_tool.specs.Refusals.{Outcome, status_of}
 use Rattle.bus_tool.specs.Replies.{Is, TheFindings, yes_or_no}
 use Rattle.bus_tool.proofs.AnswerLaws.{written_findings}
@@ -36,27 +37,13 @@ pub record FindingsLaws : Type 0 where
   pub gap : FileGapIsMeant
 
 -- ---- the words
-bounds_are : (bounds : Bounds) (table : Table) (trace : Recording) (call : Call) (h : IsDiagnoseOf bounds table trace call)
-    → are_near_bounds h.delay h.jitter h.clocks ≡ true
-bounds_are bounds table trace call h =
-    ap (λ b. b && (is_within most_near_jitter h.jitter && is_within most_clocks h.clocks)) (within_is most_near_delay bounds.delay h.delay h.words_are.delay_is h.within.delay)
-    ∙ ap (λ b. b && is_within most_clocks h.clocks) (within_is most_near_jitter bounds.jitter h.jitter h.words_are.jitter_is h.within.jitter)
-    ∙ within_is most_clocks bounds.clocks h.clocks h.words_are.clocks_is h.within.clocks
-
-same_bounds : (bounds : Bounds) (table : Table) (trace : Recording) (call : Call) (h : IsDiagnoseOf bounds table trace call)
-    → bounds_of h.delay h.jitter h.clocks ≡ bounds
-same_bounds bounds table trace call h =
-    ap (λ n. bounds_with n (decimal_value h.jitter) (decimal_value h.clocks)) h.words_are.delay_is.value
-    ∙ ap (λ n. bounds_with bounds.delay n (decimal_value h.clocks)) h.words_are.jitter_is.value
-    ∙ ap (bounds_with bounds.delay bounds.jitter) h.words_are.clocks_is.value
-
 diagnose_form : (bounds : Bounds) (table : Table) (trace : Recording) (call : Call) → IsDiagnoseOf bounds table trace call
     → form_of call.words ≡ Some (OnTrace (Diagnose bounds))
 diagnose_form bounds table trace call h =
-    let some : Bounds → Option Form = λ b. Some (OnTrace (Diagnose b)) in
-    ap form_of h.traced.form.form
-    ∙ ap (λ b. cond b (some (bounds_of h.delay h.jitter h.clocks)) None) (bounds_are bounds table trace call h)
-    ∙ ap some (same_bounds bounds table trace call h)
+    let form = h.traced.form in
+    with_options (codes "diagnose") form.first (form.second ∷ h.behind) call.words (record { plain = 3; options = h.options }) form.form h.given.line
+    ∙ front_three (codes "diagnose") form.first form.second h.behind h.options
+    ∙ ap (λ b. cond b (diagnose_by (near_bounds_of h.options)) None) h.given.taken ∙ ap diagnose_by h.asked
 
 -- ---- the claim
 tells : FindingsLaws → (call : Call) (bounds : Bounds) (table : Table) (trace : Recording) → IsDiagnoseOf bounds table trace call

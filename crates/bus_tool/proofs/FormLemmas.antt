@@ -1,70 +1,127 @@
 -- The words of a form.
-use Rattle.std.specs.Prelude.{◌≡◌, ◌≢◌, List, [], ◌∷◌, None, length, slice_index_or, String}
+use Rattle.std.specs.Prelude.{◌≡◌, ◌≢◌, ℕ, ◌≤◌, true, false, ◌&&◌, nat_eq, take, List, [], ◌∷◌, None, Ok, Some, length, slice_index_or, String}
+use Rattle.std.specs.Char.{is_ascii_digit}
 use Rattle.std.specs.declared.alloc.Global.{Global}
 use Rattle.std.specs.String.{string_bytes}
-use Rattle.std.proofs.Common.{arith, refl, sym, ap}
+use Rattle.std.proofs.Common.{arith, refl, sym, ap, ◌∙◌}
+use Rattle.std.proofs.Math.Seq.{take-length}
+use Rattle.std.proofs.lemmas.Bool.{and_parts}
+use Rattle.std.proofs.lemmas.Bool.Decides.{nat_tests}
+use Rattle.std.proofs.lemmas.List.{length-map, length-take-le}
+use Rattle.bus_text.specs.Numbers.{is_plain_decimal}
+use Rattle.bus_options.proofs.PlainLaws.{plain_line}
+use Rattle.bus_options.specs.Options.{ArePlain, Line, Options, is_option, line_of, no_options}
 use Rattle.bus_command.specs.Words.{words_of}
-use Rattle.bus_tool.specs.Forms.{one_word, two_words, three_words, four_words, five_words, six_words, form_of}
+use Rattle.bus_tool.specs.Forms.{Form, form_by, form_of, form_with, four_words, one_word, three_words, two_words}
 
-pub form_of_one : (words : List (String Global)) (a : String Global) → length words ≡ 1 → a ≡ slice_index_or words 0 a → form_of (words_of words) ≡ one_word (string_bytes a)
-form_of_one [] a h i = absurd (omega arith)
-form_of_one (p ∷ []) a h i = ap (λ word. one_word (string_bytes word)) (sym i)
-form_of_one (p ∷ q ∷ rest) a h i = absurd (omega arith)
+-- ---- plain words by their number
+take_none : {X : Type 0} (xs : List X) → take 0 xs ≡ []
+take_none [] = refl
+take_none (x ∷ xs) = refl
 
-pub form_of_two : (words : List (String Global)) (a b : String Global) → length words ≡ 2 → a ≡ slice_index_or words 0 a → b ≡ slice_index_or words 1 b → form_of (words_of words) ≡ two_words (string_bytes a) (string_bytes b)
-form_of_two [] a b h i j = absurd (omega arith)
-form_of_two (p ∷ []) a b h i j = absurd (omega arith)
-form_of_two (p ∷ q ∷ []) a b h i j = (let e : a ≡ p = i in let f : b ≡ q = j in cc)
-form_of_two (p ∷ q ∷ r ∷ rest) a b h i j = absurd (omega arith)
+pub with_two : (words : List (String Global)) (a b : String Global) (options : Options) → 2 ≤ length words → a ≡ slice_index_or words 0 a
+    → b ≡ slice_index_or words 1 b → form_with (take 2 (words_of words)) options ≡ two_words (string_bytes a) (string_bytes b) options
+with_two [] a b options h i j = absurd (omega arith)
+with_two (p ∷ []) a b options h i j = absurd (omega arith)
+with_two (p ∷ q ∷ rest) a b options h i j =
+    let first : a ≡ p = i in
+    let second : b ≡ q = j in
+    ap (λ behind. form_with (string_bytes p ∷ string_bytes q ∷ behind) options) (take_none (words_of rest))
+    ∙ ap (λ word. two_words (string_bytes word) (string_bytes q) options) (sym first) ∙ ap (λ word. two_words (string_bytes a) (string_bytes word) options) (sym second)
 
-pub form_of_three : (words : List (String Global)) (a c : String Global) → length words ≡ 3 → a ≡ slice_index_or words 0 a → c ≡ slice_index_or words 2 c
-    → form_of (words_of words) ≡ three_words (string_bytes a) (string_bytes c)
-form_of_three [] a c h i j = absurd (omega arith)
-form_of_three (p ∷ []) a c h i j = absurd (omega arith)
-form_of_three (p ∷ q ∷ []) a c h i j = absurd (omega arith)
-form_of_three (p ∷ q ∷ r ∷ []) a c h i j = (let at0 : a ≡ p = i in let at2 : c ≡ r = j in cc)
-form_of_three (p ∷ q ∷ r ∷ s ∷ rest) a c h i j = absurd (omega arith)
+pub with_three : (words : List (String Global)) (a c : String Global) (options : Options) → 3 ≤ length words → a ≡ slice_index_or words 0 a
+    → c ≡ slice_index_or words 2 c → form_with (take 3 (words_of words)) options ≡ three_words (string_bytes a) (string_bytes c) options
+with_three [] a c options h i j = absurd (omega arith)
+with_three (p ∷ []) a c options h i j = absurd (omega arith)
+with_three (p ∷ q ∷ []) a c options h i j = absurd (omega arith)
+with_three (p ∷ q ∷ r ∷ rest) a c options h i j =
+    let first : a ≡ p = i in
+    let third : c ≡ r = j in
+    ap (λ behind. form_with (string_bytes p ∷ string_bytes q ∷ string_bytes r ∷ behind) options) (take_none (words_of rest))
+    ∙ ap (λ word. three_words (string_bytes word) (string_bytes r) options) (sym first)
+    ∙ ap (λ word. three_words (string_bytes a) (string_bytes word) options) (sym third)
 
-pub form_of_four : (words : List (String Global)) (a d : String Global) → length words ≡ 4 → a ≡ slice_index_or words 0 a → d ≡ slice_index_or words 3 d → form_of (words_of words) ≡ four_words (string_bytes a) (string_bytes d)
-form_of_four [] a d h i j = absurd (omega arith)
-form_of_four (p ∷ []) a d h i j = absurd (omega arith)
-form_of_four (p ∷ q ∷ []) a d h i j = absurd (omega arith)
-form_of_four (p ∷ q ∷ r ∷ []) a d h i j = absurd (omega arith)
-form_of_four (p ∷ q ∷ r ∷ s ∷ []) a d h i j = (let e : a ≡ p = i in let f : d ≡ s = j in cc)
-form_of_four (p ∷ q ∷ r ∷ s ∷ t ∷ rest) a d h i j = absurd (omega arith)
+pub with_four : (words : List (String Global)) (a d : String Global) (options : Options) → 4 ≤ length words → a ≡ slice_index_or words 0 a
+    → d ≡ slice_index_or words 3 d → form_with (take 4 (words_of words)) options ≡ four_words (string_bytes a) (string_bytes d) options
+with_four [] a d options h i j = absurd (omega arith)
+with_four (p ∷ []) a d options h i j = absurd (omega arith)
+with_four (p ∷ q ∷ []) a d options h i j = absurd (omega arith)
+with_four (p ∷ q ∷ r ∷ []) a d options h i j = absurd (omega arith)
+with_four (p ∷ q ∷ r ∷ s ∷ rest) a d options h i j =
+    let first : a ≡ p = i in
+    let fourth : d ≡ s = j in
+    ap (λ behind. form_with (string_bytes p ∷ string_bytes q ∷ string_bytes r ∷ string_bytes s ∷ behind) options) (take_none (words_of rest))
+    ∙ ap (λ word. four_words (string_bytes word) (string_bytes s) options) (sym first)
+    ∙ ap (λ word. four_words (string_bytes a) (string_bytes word) options) (sym fourth)
 
-pub form_of_five : (words : List (String Global)) (a c d e : String Global) → length words ≡ 5 → a ≡ slice_index_or words 0 a → c ≡ slice_index_or words 2 c
-    → d ≡ slice_index_or words 3 d → e ≡ slice_index_or words 4 e
-    → form_of (words_of words) ≡ five_words (string_bytes a) (string_bytes c) (string_bytes d) (string_bytes e)
-form_of_five [] a c d e h i j k l = absurd (omega arith)
-form_of_five (p ∷ []) a c d e h i j k l = absurd (omega arith)
-form_of_five (p ∷ q ∷ []) a c d e h i j k l = absurd (omega arith)
-form_of_five (p ∷ q ∷ r ∷ []) a c d e h i j k l = absurd (omega arith)
-form_of_five (p ∷ q ∷ r ∷ s ∷ []) a c d e h i j k l = absurd (omega arith)
-form_of_five (p ∷ q ∷ r ∷ s ∷ t ∷ []) a c d e h i j k l =
-    (let at0 : a ≡ p = i in let at2 : c ≡ r = j in let at3 : d ≡ s = k in let at4 : e ≡ t = l in cc)
-form_of_five (p ∷ q ∷ r ∷ s ∷ t ∷ u ∷ rest) a c d e h i j k l = absurd (omega arith)
+-- other numbers of plain words are no form
+no_form : (words : List (List ℕ)) (options : Options) → length words ≢ 2 → length words ≢ 3 → length words ≢ 4 → form_with words options ≡ None
+no_form [] options two three four = refl
+no_form (a ∷ []) options two three four = refl
+no_form (a ∷ b ∷ []) options two three four = absurd (two refl)
+no_form (a ∷ b ∷ c ∷ []) options two three four = absurd (three refl)
+no_form (a ∷ b ∷ c ∷ d ∷ []) options two three four = absurd (four refl)
+no_form (a ∷ b ∷ c ∷ d ∷ e ∷ rest) options two three four = refl
 
-pub form_of_six : (words : List (String Global)) (a d e f : String Global) → length words ≡ 6 → a ≡ slice_index_or words 0 a → d ≡ slice_index_or words 3 d
-    → e ≡ slice_index_or words 4 e → f ≡ slice_index_or words 5 f
-    → form_of (words_of words) ≡ six_words (string_bytes a) (string_bytes d) (string_bytes e) (string_bytes f)
-form_of_six [] a d e f h i j k l = absurd (omega arith)
-form_of_six (p ∷ []) a d e f h i j k l = absurd (omega arith)
-form_of_six (p ∷ q ∷ []) a d e f h i j k l = absurd (omega arith)
-form_of_six (p ∷ q ∷ r ∷ []) a d e f h i j k l = absurd (omega arith)
-form_of_six (p ∷ q ∷ r ∷ s ∷ []) a d e f h i j k l = absurd (omega arith)
-form_of_six (p ∷ q ∷ r ∷ s ∷ t ∷ []) a d e f h i j k l = absurd (omega arith)
-form_of_six (p ∷ q ∷ r ∷ s ∷ t ∷ u ∷ []) a d e f h i j k l =
-    (let at0 : a ≡ p = i in let at3 : d ≡ s = j in let at4 : e ≡ t = k in let at5 : f ≡ u = l in cc)
-form_of_six (p ∷ q ∷ r ∷ s ∷ t ∷ u ∷ v ∷ rest) a d e f h i j k l = absurd (omega arith)
+pub with_others : (words : List (String Global)) (plain : ℕ) (options : Options) → plain ≤ length words → plain ≢ 2 → plain ≢ 3 → plain ≢ 4
+    → form_with (take plain (words_of words)) options ≡ None
+with_others words plain options within two three four =
+    let same : length (take plain (words_of words)) ≡ plain = length-take-le plain (words_of words) (grind (arith, length-map)) in
+    no_form (take plain (words_of words)) options (λ h. two (sym same ∙ h)) (λ h. three (sym same ∙ h)) (λ h. four (sym same ∙ h))
 
-pub form_of_others : (words : List (String Global)) → length words ≢ 1 → length words ≢ 2 → length words ≢ 3 → length words ≢ 4 → length words ≢ 5
-    → length words ≢ 6 → form_of (words_of words) ≡ None
-form_of_others [] one two three four five six = refl
-form_of_others (p ∷ []) one two three four five six = absurd (one refl)
-form_of_others (p ∷ q ∷ []) one two three four five six = absurd (two refl)
-form_of_others (p ∷ q ∷ r ∷ []) one two three four five six = absurd (three refl)
-form_of_others (p ∷ q ∷ r ∷ s ∷ []) one two three four five six = absurd (four refl)
-form_of_others (p ∷ q ∷ r ∷ s ∷ t ∷ []) one two three four five six = absurd (five refl)
-form_of_others (p ∷ q ∷ r ∷ s ∷ t ∷ u ∷ []) one two three four five six = absurd (six refl)
-form_of_others (p ∷ q ∷ r ∷ s ∷ t ∷ u ∷ v ∷ rest) one two three four five six = refl
+-- ---- the words of a command line
+pub of_none : (words : List (String Global)) → length words ≡ 0 → form_of (words_of words) ≡ None
+of_none [] h = refl
+of_none (p ∷ rest) h = absurd (omega arith)
+
+pub of_one : (words : List (String Global)) (a : String Global) → length words ≡ 1 → a ≡ slice_index_or words 0 a
+    → form_of (words_of words) ≡ one_word (string_bytes a)
+of_one [] a h i = absurd (omega arith)
+of_one (p ∷ []) a h i = ap (λ word. one_word (string_bytes word)) (sym i)
+of_one (p ∷ q ∷ rest) a h i = absurd (omega arith)
+
+pub of_more : (words : List (String Global)) → length words ≢ 0 → length words ≢ 1
+    → form_of (words_of words) ≡ form_by (words_of words) (line_of (words_of words))
+of_more [] none one = absurd (none refl)
+of_more (p ∷ []) none one = absurd (one refl)
+of_more (p ∷ q ∷ rest) none one = refl
+
+-- what a line is that is read as plain words and options
+pub of_line : (a b : List ℕ) (further : List (List ℕ)) (line : Line) → line_of (a ∷ b ∷ further) ≡ Ok line
+    → form_of (a ∷ b ∷ further) ≡ form_with (take line.plain (a ∷ b ∷ further)) line.options
+of_line a b further line h = ap (form_by (a ∷ b ∷ further)) h
+
+-- a line of plain words
+pub of_plain : (a b : List ℕ) (further words : List (List ℕ)) → words ≡ a ∷ b ∷ further → ArePlain (a ∷ b ∷ further)
+    → form_of words ≡ form_with (a ∷ b ∷ further) no_options
+of_plain a b further words h plain =
+    ap form_of h ∙ of_line a b further (record { plain = length (a ∷ b ∷ further); options = no_options }) (plain_line (a ∷ b ∷ further) plain)
+    ∙ ap (λ front. form_with front no_options) (take-length (a ∷ b ∷ further))
+
+-- a line with options behind two plain words, and behind three
+pub with_options : (a b : List ℕ) (behind words : List (List ℕ)) (line : Line) → words ≡ a ∷ b ∷ behind → line_of words ≡ Ok line
+    → form_of words ≡ form_with (take line.plain (a ∷ b ∷ behind)) line.options
+with_options a b behind words line h known = ap form_of h ∙ of_line a b behind line (ap line_of (sym h) ∙ known)
+
+pub front_two : (a b : List ℕ) (behind : List (List ℕ)) (options : Options) → form_with (take 2 (a ∷ b ∷ behind)) options ≡ two_words a b options
+front_two a b behind options = ap (λ rest. form_with (a ∷ b ∷ rest) options) (take_none behind)
+
+pub front_three : (a b c : List ℕ) (behind : List (List ℕ)) (options : Options)
+    → form_with (take 3 (a ∷ b ∷ c ∷ behind)) options ≡ three_words a c options
+front_three a b c behind options = ap (λ rest. form_with (a ∷ b ∷ c ∷ rest) options) (take_none behind)
+
+-- ---- plain words
+-- more of them behind some
+pub plain_with : (a b c : List ℕ) (further : List (List ℕ)) → ArePlain (a ∷ b ∷ c ∷ []) → ArePlain further → ArePlain (a ∷ b ∷ c ∷ further)
+plain_with a b c further p q = (p.0, (p.1.0, (p.1.1.0, q)))
+
+digit_is : (byte : ℕ) → is_ascii_digit byte ≡ true → nat_eq byte 45 ≡ false
+digit_is byte h = grind (arith, nat_tests)
+
+-- a plain decimal is one
+pub decimal_plain : (word : List ℕ) → is_plain_decimal word ≡ true → is_option word ≡ false
+decimal_plain [] h = refl
+decimal_plain (a ∷ []) h = refl
+decimal_plain (a ∷ b ∷ rest) h =
+    let digits : is_ascii_digit a ≡ true = (and_parts _ _ (and_parts _ _ h).1).0 in
+    ap (λ x. x && (nat_eq b 45 && true)) (digit_is a digits)

@@ -19,7 +19,9 @@ use Rattle.bus_command.specs.Stages.{MayReplace}
 use Rattle.bus_tool.specs.Acts.{tool_program, Acts}
 use Rattle.bus_tool.specs.inside.Acting.{IsOfMode}
 use Rattle.bus_tool.specs.Due.{table_for, refusal_for, table_answer, messages_answer, inputs_answer, trace_answer, traced_answer}
-use Rattle.bus_tool.specs.Forms.{OnTable, OnMessages, OnTrace, TableCommand, MessagesCommand, TraceCommand, form_of, table_mode, messages_mode}
+use Rattle.bus_tool.specs.Forms.{OnTable, OnMessages, OnTrace, TableCommand, MessagesCommand, TraceCommand, form_of, form_with, no_options, table_mode, messages_mode}
+use Rattle.bus_options.specs.Options.{ArePlain}
+use Rattle.bus_tool.proofs.FormLemmas.{of_plain, plain_with}
 use Rattle.bus_tool.specs.Refusals.{Outcome, ToolRefusal, ends_of, status_of}
 use Rattle.bus_tool.specs.Texts.{table_answer_text, IsTableAnswerText, IsMessagesAnswerText, IsInputsText, trace_answer_text, IsTracedText}
 use Rattle.bus_tool.proofs.AnswerLaws.{table_answered}
@@ -46,20 +48,20 @@ table_answers laws command call outcome table IsText words mode shows acts told 
 
 -- a command on a table
 pub table_comes : ReadLaws → (command : TableCommand) (word : List ℕ) (call : Call) (outcome : Outcome) (table : Table) (IsText : List ℕ → Type 0)
-    → ((path : List ℕ) → form_of (word ∷ path ∷ []) ≡ Some (OnTable command)) → IsOfMode (table_mode command) table
+    → ((path : List ℕ) → form_with (word ∷ path ∷ []) no_options ≡ Some (OnTable command)) → IsOfMode (table_mode command) table
     → ((text : List ℕ) → text ≡ table_answer_text command table → IsText text) → Acts call outcome → IsOfTable word table call
     → Answers (status_of (table_answer command table)) IsText call (status_of outcome)
 table_comes laws command word call outcome table IsText words mode shows acts h =
-    table_answers laws command call outcome table IsText (ap form_of h.form.form ∙ words h.form.path) mode shows acts h.table_told h.undisturbed
+    table_answers laws command call outcome table IsText (of_plain word h.form.path [] call.words h.form.form h.form.plain ∙ words h.form.path) mode shows acts h.table_told h.undisturbed
 
 -- a command on a table and messages
 pub messages_comes : ReadLaws → (command : MessagesCommand) (word : List ℕ) (further : List (List ℕ)) (call : Call) (outcome : Outcome) (table : Table)
     (items : List Item) (IsText : List ℕ → Type 0)
-    → ((a b : List ℕ) → form_of (word ∷ a ∷ b ∷ further) ≡ Some (OnMessages command)) → IsOfMode (messages_mode command) table
+    → ArePlain further → ((a b : List ℕ) → form_with (word ∷ a ∷ b ∷ further) no_options ≡ Some (OnMessages command)) → IsOfMode (messages_mode command) table
     → kind_of (messages_answer command table (hands_of table items)) ≡ Answer
     → ((text : List ℕ) → IsMessagesAnswerText command table (hands_of table items) text → IsText text) → Acts call outcome → IsOfItems word further table items call
     → Answers (status_of (messages_answer command table (hands_of table items))) IsText call (status_of outcome)
-messages_comes laws command word further call outcome table items IsText words mode answer_is shows acts h =
+messages_comes laws command word further call outcome table items IsText plain words mode answer_is shows acts h =
     let first = h.table_told.text in
     let second = h.items_told.text in
     let before = call.before.sources in
@@ -70,7 +72,9 @@ messages_comes laws command word further call outcome table items IsText words m
     claimed ends_of (inputs_answer command) (IsInputsText command) (two_sources entire entire) (refusal_for (messages_mode command))
     (inputs_by (table_for (messages_mode command))) first second (with_items table items) IsText call outcome
     (at_two entire entire before first second h.table_told.told h.items_told.told) due answer_is shows
-    (does_of tool_program call outcome (OnMessages command) (ap form_of h.form.form ∙ words h.form.first h.form.second) acts) h.undisturbed
+    (does_of tool_program call outcome (OnMessages command)
+    (of_plain word h.form.first (h.form.second ∷ further) call.words h.form.form (plain_with word h.form.first h.form.second further h.form.plain plain)
+    ∙ words h.form.first h.form.second) acts) h.undisturbed
 
 -- a command on a table and a trace, whose words are any
 pub both_told : ReadLaws → (word : List ℕ) (further : List (List ℕ)) (call : Call) (table : Table) (trace : Recording)
@@ -93,18 +97,18 @@ trace_answers laws command word further call outcome table trace words answer_is
 
 -- a command on a table and a trace
 pub trace_comes : ReadLaws → (command : TraceCommand) (word : List ℕ) (call : Call) (outcome : Outcome) (table : Table) (trace : Recording)
-    → ((a b : List ℕ) → form_of (word ∷ a ∷ b ∷ []) ≡ Some (OnTrace command)) → kind_of (trace_answer command table trace) ≡ Answer
+    → ((a b : List ℕ) → form_with (word ∷ a ∷ b ∷ []) no_options ≡ Some (OnTrace command)) → kind_of (trace_answer command table trace) ≡ Answer
     → Acts call outcome → IsOfTraced word [] table trace call
     → Answers (status_of (trace_answer command table trace)) (λ text. text ≡ trace_answer_text command table trace) call (status_of outcome)
 trace_comes laws command word call outcome table trace words answer_is acts h =
-    trace_answers laws command word [] call outcome table trace (ap form_of h.form.form ∙ words h.form.first h.form.second) answer_is acts h
+    trace_answers laws command word [] call outcome table trace (of_plain word h.form.first (h.form.second ∷ []) call.words h.form.form h.form.plain ∙ words h.form.first h.form.second) answer_is acts h
 
 -- what stands for its answer
 pub trace_stands : ReadLaws → (command : TraceCommand) (word : List ℕ) (call : Call) (outcome : Outcome) (table : Table) (trace : Recording)
-    → ((a b : List ℕ) → form_of (word ∷ a ∷ b ∷ []) ≡ Some (OnTrace command)) → Acts call outcome → IsOfTraced word [] table trace call
+    → ((a b : List ℕ) → form_with (word ∷ a ∷ b ∷ []) no_options ≡ Some (OnTrace command)) → Acts call outcome → IsOfTraced word [] table trace call
     → MayReplace (trace_answer command table trace) outcome
 trace_stands laws command word call outcome table trace words acts h =
     stands_told (traced_answer command) (two_sources entire Trace) traced_due h.table_told.text h.trace_told.stream (with_trace table trace)
     call.before.sources outcome (at_two entire Trace call.before.sources h.table_told.text h.trace_told.stream h.table_told.told h.trace_told.told)
     (both_told laws word [] call table trace h)
-    (does_of tool_program call outcome (OnTrace command) (ap form_of h.form.form ∙ words h.form.first h.form.second) acts).due
+    (does_of tool_program call outcome (OnTrace command) (of_plain word h.form.first (h.form.second ∷ []) call.words h.form.form h.form.plain ∙ words h.form.first h.form.second) acts).due

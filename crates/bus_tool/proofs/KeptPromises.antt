@@ -34,7 +34,8 @@ use Rattle.bus_tool.specs.DrillClaims.{drill_reply}
 use Rattle.bus_tool.specs.Drills.{drill_line}
 use Rattle.bus_tool.specs.Itself.{itself_text}
 use Rattle.bus_tool.specs.Due.{audit_outcome, table_answer, trace_answer}
-use Rattle.bus_tool.specs.Forms.{Drill, OnItself, OnTable, OnTrace, TableCommand, TraceCommand, Check, Tolerance, Witness, Tidy, Report, Receive, Audit, Vote, form_of, two_words, table_mode}
+use Rattle.bus_tool.specs.Forms.{Drill, OnItself, OnTable, OnTrace, TableCommand, TraceCommand, Check, Tolerance, Witness, Tidy, Report, Receive, Audit, Vote, form_of, form_with, no_options, two_words, table_mode}
+use Rattle.bus_tool.proofs.FormLemmas.{decimal_plain, of_plain}
 use Rattle.bus_tool.specs.inside.Acting.{IsOfMode}
 use Rattle.bus_tool.specs.Keeping.{Keeps, Spells}
 use Rattle.bus_tool.specs.Replies.{Is, Reply, TheVerdict, TheMessages, TheTable, TheReport, TheReceipts, TheAudit, TheVotes, OfItself, receipts_of, yes_or_no}
@@ -87,7 +88,7 @@ pub record PromiseLaws : Type 0 where
   pub scheduled : ScheduleLaws
 
 -- ---- `drill`
-drill_form : (word : List ℕ) (number : ℕ) → IsDecimal word number → number ≤ most_number → two_words (codes "drill") word ≡ Some (Drill number)
+drill_form : (word : List ℕ) (number : ℕ) → IsDecimal word number → number ≤ most_number → two_words (codes "drill") word no_options ≡ Some (Drill number)
 drill_form word number d within =
     let plain : is_plain_decimal word ≡ true = d.plain in
     let low : nat_le (decimal_value word) most_number ≡ true = grind (arith, nat_tests, d.value) in
@@ -97,7 +98,8 @@ drill_form word number d within =
 drill_claim : (call : Call) (outcome : Outcome) (number : ℕ) → Acts call outcome → IsDrillOf number call
     → Answers call (status_of outcome) status.Done (Is (drill_reply number))
 drill_claim call outcome number acts h =
-    let does = does_of tool_program call outcome (Drill number) (ap form_of h.form.form ∙ drill_form h.form.word number h.form.spelled h.form.within) acts in
+    let does = does_of tool_program call outcome (Drill number) (of_plain (codes "drill") h.form.word [] call.words h.form.form (refl, (decimal_plain h.form.word h.form.spelled.plain, tt))
+    ∙ drill_form h.form.word number h.form.spelled h.form.within) acts in
     let due : Outcome = Done in
     answers ends_of no_source due outcome _ (IsTextOf (Is (drill_reply number))) call refl
     (λ text is. is_text (drill_reply number) (drill_line number) text tt refl is) does.due does.text does.counts does.out_count h.undisturbed
@@ -121,7 +123,7 @@ itself_claim call outcome about acts h =
 
 -- ---- a command on a table, or on a table and a trace, by its reply
 table_replies : PromiseLaws → (command : TableCommand) (word : List ℕ) (call : Call) (outcome : Outcome) (table : Table) (answer : Status) (reply : Reply)
-    → ((path : List ℕ) → form_of (word ∷ path ∷ []) ≡ Some (OnTable command)) → IsOfMode (table_mode command) table
+    → ((path : List ℕ) → form_with (word ∷ path ∷ []) no_options ≡ Some (OnTable command)) → IsOfMode (table_mode command) table
     → status_of (table_answer command table) ≡ answer → Stands reply → table_answer_text command table ≡ reply_text reply
     → Acts call outcome → IsOfTable word table call → Answers call (status_of outcome) answer (Is reply)
 table_replies laws command word call outcome table answer reply words mode same stands written acts h =
@@ -130,7 +132,7 @@ table_replies laws command word call outcome table answer reply words mode same 
     (λ text is. is_text reply (table_answer_text command table) text stands written is) acts h)
 
 trace_replies : PromiseLaws → (command : TraceCommand) (word : List ℕ) (call : Call) (outcome : Outcome) (table : Table) (trace : Recording) (reply : Reply)
-    → ((a b : List ℕ) → form_of (word ∷ a ∷ b ∷ []) ≡ Some (OnTrace command)) → kind_of (trace_answer command table trace) ≡ Answer
+    → ((a b : List ℕ) → form_with (word ∷ a ∷ b ∷ []) no_options ≡ Some (OnTrace command)) → kind_of (trace_answer command table trace) ≡ Answer
     → Stands reply → trace_answer_text command table trace ≡ reply_text reply → Acts call outcome → IsOfTraced word [] table trace call
     → Answers call (status_of outcome) (status_of (trace_answer command table trace)) (Is reply)
 trace_replies laws command word call outcome table trace reply words answer_is stands written acts h =

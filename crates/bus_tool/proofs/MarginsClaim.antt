@@ -13,7 +13,8 @@ use Rattle.bus_command.specs.Outside.{Call}
 use Rattle.bus_tool.specs.Acts.{Acts}
 use Rattle.bus_tool.specs.Answering.{Answers, IsTextOf}
 use Rattle.bus_tool.specs.Asking.{IsMarginsOf}
-use Rattle.bus_tool.specs.Forms.{Form, OnTable, Margins, form_of, is_within, are_bounds, bounds_of}
+use Rattle.bus_tool.specs.Forms.{OnTable, Margins, bounds_of, form_of, margins_by}
+use Rattle.bus_tool.proofs.FormLemmas.{front_two, with_options}
 use Rattle.bus_tool.specs.MarginsClaims.{TellsMargins, TellsTurns, has_margins, margins_reply}
 use Rattle.bus_tool.specs.MarginsTexts.{margins_answer}
 use Rattle.bus_tool.specs.Refusals.{Outcome, status_of}
@@ -30,32 +31,11 @@ pub record MarginsLaws : Type 0 where
   pub turns : TurnsLaws
 
 -- ---- the words
-pub within_is : (limit n : ℕ) (word : List ℕ) → IsDecimal word n → n ≤ limit → is_within limit word ≡ true
-within_is limit n word d low =
-    let tested : nat_le (decimal_value word) limit ≡ true = grind (arith, nat_tests, d.value) in
-    ap (λ b. b && nat_le (decimal_value word) limit) d.plain ∙ tested
-
-bounds_are : (bounds : Bounds) (table : Table) (call : Call) (h : IsMarginsOf bounds table call) → are_bounds h.delay h.jitter h.clocks ≡ true
-bounds_are bounds table call h =
-    ap (λ b. b && (is_within most_jitter h.jitter && is_within most_clocks h.clocks)) (within_is most_delay bounds.delay h.delay h.words_are.delay_is h.within.delay)
-    ∙ ap (λ b. b && is_within most_clocks h.clocks) (within_is most_jitter bounds.jitter h.jitter h.words_are.jitter_is h.within.jitter)
-    ∙ within_is most_clocks bounds.clocks h.clocks h.words_are.clocks_is h.within.clocks
-
-abbrev pub bounds_with : ℕ → ℕ → ℕ → Bounds
-bounds_with delay jitter clocks = record { delay = delay; jitter = jitter; clocks = clocks }
-
-same_bounds : (bounds : Bounds) (table : Table) (call : Call) (h : IsMarginsOf bounds table call) → bounds_of h.delay h.jitter h.clocks ≡ bounds
-same_bounds bounds table call h =
-    ap (λ n. bounds_with n (decimal_value h.jitter) (decimal_value h.clocks)) h.words_are.delay_is.value
-    ∙ ap (λ n. bounds_with bounds.delay n (decimal_value h.clocks)) h.words_are.jitter_is.value
-    ∙ ap (bounds_with bounds.delay bounds.jitter) h.words_are.clocks_is.value
-
 margins_form : (bounds : Bounds) (table : Table) (call : Call) → IsMarginsOf bounds table call → form_of call.words ≡ Some (OnTable (Margins bounds))
 margins_form bounds table call h =
-    let some : Bounds → Option Form = λ b. Some (OnTable (Margins b)) in
-    ap form_of h.form
-    ∙ ap (λ b. cond b (some (bounds_of h.delay h.jitter h.clocks)) None) (bounds_are bounds table call h)
-    ∙ ap some (same_bounds bounds table call h)
+    with_options (codes "margins") h.path h.behind call.words (record { plain = 2; options = h.options }) h.form h.given.line
+    ∙ front_two (codes "margins") h.path h.behind h.options
+    ∙ ap (λ b. cond b (margins_by (bounds_of h.options)) None) h.given.taken ∙ ap margins_by h.asked
 
 -- ---- the claim
 -- what is told of an aperiodic table

@@ -20,7 +20,8 @@ use Rattle.bus_command.specs.declared.status.Status.TheVariants as status
 use Rattle.bus_tool.specs.Acts.{Acts}
 use Rattle.bus_tool.specs.Answering.{Answers, IsTextOf}
 use Rattle.bus_tool.specs.Asking.{IsObserveOf}
-use Rattle.bus_tool.specs.Forms.{OnMessages, Observe, four_words}
+use Rattle.bus_tool.specs.Forms.{OnMessages, Observe, four_words, no_options}
+use Rattle.bus_tool.proofs.FormLemmas.{decimal_plain}
 use Rattle.bus_tool.specs.ObserveClaims.{IsTheTrace}
 use Rattle.bus_tool.specs.Refusals.{Outcome, status_of}
 use Rattle.bus_tool.specs.Replies.{TheTrace}
@@ -30,7 +31,7 @@ use Rattle.bus_tool.proofs.GroupClaims.{ReadLaws, messages_comes}
 
 -- the words are the form
 horizon_form : (number : List ℕ) (horizon : ℕ) → IsDecimal number horizon → horizon ≤ horizon_limit
-    → four_words (codes "observe") number ≡ Some (OnMessages (Observe horizon))
+    → four_words (codes "observe") number no_options ≡ Some (OnMessages (Observe horizon))
 horizon_form number horizon d within =
     let plain : is_plain_decimal number ≡ true = d.plain in
     let low : nat_le (decimal_value number) horizon_limit ≡ true = grind (arith, nat_tests, d.value) in
@@ -66,6 +67,6 @@ pub observe_claim : ReadLaws → FittingItemsGiveHands → OneListOfATable → (
     → Answers call (status_of outcome) status.Done (IsTheTrace table (hands_of table items) horizon)
 observe_claim laws give one_list call outcome table items horizon acts h =
     messages_comes laws (Observe horizon) (codes "observe") (h.number ∷ []) call outcome table items (IsTextOf (IsTheTrace table (hands_of table items) horizon))
-    (λ a b. horizon_form h.number horizon h.spelled h.within) tt refl
+    (decimal_plain h.number h.spelled.plain, tt) (λ a b. horizon_form h.number horizon h.spelled h.within) tt refl
     (λ text is. trace_of give one_list table items call.before.sources.second horizon text h.call_is.table_told.valid h.call_is.items_told h.within is)
     acts h.call_is

@@ -105,5 +105,5 @@ run_claim laws give agree call outcome table items acts call_is accepted even sh
     let h : IsRunOf table items call = record { call_is = call_is; accepted = accepted; even = even; short = short } in
     let can = is_run give agree table items call h in
     subst (λ o. Answers call (status_of outcome) (status_of o) (IsTheRun table (hands_of table items))) (ap (outcome_with done_with) can)
-    (messages_comes laws Run (codes "run") [] call outcome table items (IsTextOf (IsTheRun table (hands_of table items))) (λ a b. refl) tt
+    (messages_comes laws Run (codes "run") [] call outcome table items (IsTextOf (IsTheRun table (hands_of table items))) tt (λ a b. refl) tt
     (ap (λ r. kind_of (outcome_with done_with r)) can) (λ text is. the_run give table items call text h is) acts h.call_is)

@@ -150,7 +150,7 @@ schedule_claim texts laws call outcome table items acts call_is even short =
     let tells = is_scheduled laws table items call h in
     let reply = TheTrace (scheduled table (hands_of table items)) in (
       subst (λ o. Answers call (status_of outcome) (status_of o) (Is reply)) (ap (outcome_with done_with) is)
-          (messages_comes texts Schedule (codes "schedule") [] call outcome table items (IsTextOf (Is reply)) (λ a b. refl) tt
+          (messages_comes texts Schedule (codes "schedule") [] call outcome table items (IsTextOf (Is reply)) tt (λ a b. refl) tt
           (ap (λ r. kind_of (outcome_with done_with r)) is) (λ text is. is_text reply _ text tells.trace refl is) acts h.call_is),
       tells,
     )

@@ -24,7 +24,8 @@ use Rattle.bus_tool.specs.Acts.{tool_program, Acts}
 use Rattle.bus_tool.specs.Answering.{Answers, IsTextOf}
 use Rattle.bus_tool.specs.Asking.{IsUnwaveOf}
 use Rattle.bus_tool.specs.Due.{spaced_outcome, unwave_answer, unwave_due, wave_trace_due}
-use Rattle.bus_tool.specs.Forms.{Unwave, Wave, entire_wave, form_of}
+use Rattle.bus_tool.specs.Forms.{Unwave, Wave, entire_wave}
+use Rattle.bus_tool.proofs.FormLemmas.{of_plain}
 use Rattle.bus_tool.specs.Refusals.{Outcome, ToolRefusal, ends_of, status_of, refuse, Unspaced}
 use Rattle.bus_tool.specs.Replies.{Is, TheTrace, TheWave}
 use Rattle.bus_tool.specs.Texts.{IsUnwavedText}
@@ -124,4 +125,4 @@ unwave_claim laws call outcome table trace acts h =
     (wave_told laws.back table trace second h.table_told.valid h.wave_told.trace_is h.wave_told.stands h.wave_told.short) in
     claimed ends_of unwave_answer IsUnwavedText (two_sources entire entire_wave) table_refusal_of unwave_due first second (with_trace table trace)
     (IsTextOf (Is (TheTrace trace))) call outcome (at_two entire entire_wave before first second h.table_told.told h.wave_told.told) due refl
-    (λ text is. is_text (TheTrace trace) (trace_text trace) text h.wave_told.trace_is.trace refl is) (does_of tool_program call outcome Unwave (ap form_of h.form.form) acts) h.undisturbed
+    (λ text is. is_text (TheTrace trace) (trace_text trace) text h.wave_told.trace_is.trace refl is) (does_of tool_program call outcome Unwave (of_plain (codes "unwave") h.form.first (h.form.second ∷ []) call.words h.form.form h.form.plain) acts) h.undisturbed

@@ -1,6 +1,6 @@
 -- How a call asks, said once for all commands: its words are the command's form, its sources tell texts that stand for the values, and
 -- nothing outside fails.
-use Rattle.std.specs.Prelude.{◌≡◌, ℕ, ◌≤◌, List, [], ◌∷◌, length, codes, Some, Ok}
+use Rattle.std.specs.Prelude.{◌≡◌, ℕ, ◌≤◌, false, List, [], ◌∷◌, length, codes, Some, Ok}
 use Rattle.bus_text.specs.Numbers.{IsDecimal}
 use Rattle.bus_strings.specs.Items.{Item}
 use Rattle.bus_strings.specs.Limits.{horizon_limit}
@@ -16,7 +16,12 @@ use Rattle.bus_vectors.specs.Made.{most_number}
 use Rattle.bus_wave.specs.WaveLaws.{IsWaveTrace}
 use Rattle.bus_wave.specs.WaveTexts.{IsWaveText}
 use Rattle.bus_command.specs.About.{IsAbout}
-use Rattle.bus_command.specs.Bounding.{AreNear}
+use Rattle.bus_options.specs.Bounding.{AreNear, bounds_of, near_bounds_of}
+use Rattle.bus_options.specs.Options.{Options, is_option}
+use Rattle.bus_options.specs.Taken.{HasOptions}
+use Rattle.bus_options.specs.Taken as taken
+use Rattle.bus_units.specs.Quantities.{bit_time}
+use Rattle.std.specs.Int.{div_ceil}
 use Rattle.bus_command.specs.Claims.{IsFormOfOne, IsFormOfTwo, TellsTable, NothingFails, IsOfTable, IsOfItems, IsOfTraced}
 use Rattle.bus_command.specs.Outside.{Seen, Call}
 use Rattle.bus_command.specs.Readers.{entire, no_source, one_source, two_sources, text_limit}
@@ -26,30 +31,28 @@ use Rattle.bus_tool.specs.Asked.{Wave, Unwave, Explain, ExplainBeside, Facts, On
 use Rattle.bus_tool.specs.Forms.{entire_beside, entire_wave, wave_limit}
 
 -- ---- a table
--- Three words are the plain decimals of bounds.
-pub record AreWordsOf (bounds : Bounds) (delay jitter clocks : List ℕ) : Type 0 where
-  pub delay_is : IsDecimal delay bounds.delay
-  pub jitter_is : IsDecimal jitter bounds.jitter
-  pub clocks_is : IsDecimal clocks bounds.clocks
-
--- A call of `margins T D J P`, where D, J and P are the plain decimals of bounds within their limits, on a text of a valid table.
+-- A call of `margins T` whose options ask for these bounds, on a text of a valid table.
 pub record IsMarginsOf (bounds : Bounds) (table : Table) (call : Call) : Type 0 where
   pub path : List ℕ
-  pub delay : List ℕ
-  pub jitter : List ℕ
-  pub clocks : List ℕ
-  pub form : call.words ≡ codes "margins" ∷ path ∷ delay ∷ jitter ∷ clocks ∷ []
-  pub words_are : AreWordsOf bounds delay jitter clocks
+  pub behind : List (List ℕ)
+  pub options : Options
+  pub form : call.words ≡ codes "margins" ∷ path ∷ behind
+  pub given : HasOptions 2 taken.bounds options call.words
+  pub asked : bounds_of options ≡ Ok (Some bounds)
   pub within : AreBounds bounds
   pub table_told : TellsTable table call.before.sources.first
   pub undisturbed : NothingFails (one_source entire) call.before call.after
 
--- A call of `plan T D`, where D is the plain decimal of a delay within its limit, on a text of a valid table.
+-- A call of `plan T` with a delay that is so many bit times, rounded up, within its limit, on a text of a valid table.
 pub record IsPlanForOf (d : ℕ) (table : Table) (call : Call) : Type 0 where
   pub path : List ℕ
-  pub word : List ℕ
-  pub form : call.words ≡ codes "plan" ∷ path ∷ word ∷ []
-  pub delay_is : IsDecimal word d
+  pub behind : List (List ℕ)
+  pub options : Options
+  pub delay : ℕ
+  pub form : call.words ≡ codes "plan" ∷ path ∷ behind
+  pub given : HasOptions 2 taken.delay options call.words
+  pub asked : options.delay ≡ Some delay
+  pub delay_is : div_ceil delay bit_time ≡ d
   pub within : d ≤ most_ti
   pub table_told : TellsTable table call.before.sources.first
   pub undisturbed : NothingFails (one_source entire) call.before call.after
@@ -57,6 +60,7 @@ pub record IsPlanForOf (d : ℕ) (table : Table) (call : Call) : Type 0 where
 -- A call of `plan T best` on such a text.
 pub record IsPlanBestOf (table : Table) (call : Call) : Type 0 where
   pub path : List ℕ
+  pub plain : is_option path ≡ false
   pub form : call.words ≡ codes "plan" ∷ path ∷ codes "best" ∷ []
   pub table_told : TellsTable table call.before.sources.first
   pub undisturbed : NothingFails (one_source entire) call.before call.after
@@ -83,14 +87,14 @@ pub record IsObserveOf (table : Table) (items : List Item) (horizon : ℕ) (call
   pub call_is : IsOfItems (codes "observe") (number ∷ []) table items call
 
 -- ---- a table and a trace, or a wave
--- A call of `diagnose T R D J P`, where D, J and P are the plain decimals of bounds within their limits.
+-- A call of `diagnose T R` whose options ask for these bounds of a recording, on texts of a valid table and of a trace.
 pub record IsDiagnoseOf (bounds : Bounds) (table : Table) (trace : Recording) (call : Call) : Type 0 where
-  pub delay : List ℕ
-  pub jitter : List ℕ
-  pub clocks : List ℕ
-  pub words_are : AreWordsOf bounds delay jitter clocks
+  pub behind : List (List ℕ)
+  pub options : Options
+  pub given : HasOptions 3 taken.bounds options call.words
+  pub asked : near_bounds_of options ≡ Ok (Some bounds)
   pub within : AreNear bounds
-  pub traced : IsOfTraced (codes "diagnose") (delay ∷ jitter ∷ clocks ∷ []) table trace call
+  pub traced : IsOfTraced (codes "diagnose") behind table trace call
 
 -- A source tells its bytes, and they are the wave text, within its limit, of a trace that is read from it for the table.
 pub record TellsWave (table : Table) (trace : Recording) (seen : Seen) : Type 0 where

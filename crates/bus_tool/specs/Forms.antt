@@ -1,8 +1,12 @@
 -- The forms of the command line, in groups by what they take. A word is its bytes.
-use Rattle.std.specs.Prelude.{ℕ, ◌≤◌, Bool, ◌&&◌, nat_le, List, [], ◌∷◌, codes, Option, Some, None, if◌then◌else◌}
+use Rattle.std.specs.Prelude.{ℕ, ◌≤◌, Bool, ◌&&◌, nat_le, List, [], ◌∷◌, codes, take, if◌then◌else◌}
+use Rattle.std.specs.Prelude.{Option, Some, None, Result, Ok, Err}
 use Rattle.std.specs.Option.{option_map}
 use Rattle.std.specs.Str.{bytes_eq}
+use Rattle.std.specs.Int.{div_ceil}
 use Rattle.bus_text.specs.Numbers.{is_plain_decimal, decimal_value}
+use Rattle.bus_units.specs.Quantities.{bit_time}
+use Rattle.bus_bounds.specs.Bounds.{Bounds}
 use Rattle.bus_strings.specs.Limits.{horizon_limit}
 use Rattle.bus_table.specs.declared.mode.Mode.{Mode}
 use Rattle.bus_table.specs.declared.mode.Mode.TheVariants.{Aperiodic, Periodic}
@@ -10,7 +14,10 @@ use Rattle.bus_table.specs.Ranges.{most_ti}
 use Rattle.bus_trace.specs.Limits.{trace_limit}
 use Rattle.bus_vectors.specs.Made.{most_number}
 use Rattle.bus_command.specs.About.{about_of}
-pub use Rattle.bus_command.specs.Bounding.{is_within, are_bounds, most_near_delay, most_near_jitter, are_near_bounds, bounds_of}
+pub use Rattle.bus_options.specs.Bounding.{PastLimit, bounds_of, most_near_delay, most_near_jitter, near_bounds_of}
+pub use Rattle.bus_options.specs.Options.{Line, Options, OptionError, line_of, no_options}
+pub use Rattle.bus_options.specs.Taken.{OptionSet, takes}
+use Rattle.bus_options.specs.Taken as taken
 use Rattle.bus_command.specs.Readers.{Reader, Entire}
 pub use Rattle.bus_tool.specs.declared.forms.Form.{Form}
 pub use Rattle.bus_tool.specs.declared.forms.Form.TheVariants.{OnTable, OnMessages, OnTrace, Unwave, Drill, OnItself}
@@ -36,36 +43,52 @@ is_drill_number word = is_plain_decimal word && nat_le (decimal_value word) most
 abbrev pub one_word : List ℕ → Option Form
 one_word word = option_map OnItself (about_of word)
 
--- `check T`, `tolerance T`, `tidy T`, `report T`, `witness T`, `plan T`, `explain T`, `facts T`, `drill N`.
-abbrev pub two_words : List ℕ → List ℕ → Option Form
-two_words command second =
-    if bytes_eq command (codes "check") then Some (OnTable Check)
-    else if bytes_eq command (codes "tolerance") then Some (OnTable Tolerance)
-    else if bytes_eq command (codes "tidy") then Some (OnTable Tidy)
-    else if bytes_eq command (codes "report") then Some (OnTable Report)
-    else if bytes_eq command (codes "witness") then Some (OnTable Witness)
-    else if bytes_eq command (codes "plan") then Some (OnTable Plan)
-    else if bytes_eq command (codes "explain") then Some Explain
-    else if bytes_eq command (codes "facts") then Some Facts
-    else if bytes_eq command (codes "drill") && is_drill_number second then Some (Drill (decimal_value second))
-    else None
-
--- The delay of a plan that a word asks for.
-abbrev pub plan_delay_of : List ℕ → Option PlanDelay
-plan_delay_of word =
-    if is_within most_ti word then Some (Bits (decimal_value word))
-    else if bytes_eq word (codes "best") then Some Greatest
-    else None
+-- A form, where a command takes all options that are given.
+abbrev pub given : OptionSet → Options → Option Form → Option Form
+given set options form = if takes set options then form else None
 
 -- A plan for a delay.
 abbrev pub plan_for : PlanDelay → Form
 plan_for delay = OnTable (PlanFor delay)
 
--- `plan T D`, `plan T best`, `explain T F`, `run T M`, `drop T M`, `schedule T M`, `receive T R`, `audit T R`, `vote T R`, `wave T R`,
--- `unwave T W`.
-abbrev pub three_words : List ℕ → List ℕ → Option Form
-three_words command third =
-    if bytes_eq command (codes "plan") then option_map plan_for (plan_delay_of third)
+-- A plan for so many bit times.
+abbrev pub plan_bits : ℕ → Option Form
+plan_bits bits = if nat_le bits most_ti then Some (plan_for (Bits bits)) else None
+
+-- A plan for a delay in nanoseconds, where one is given.
+abbrev pub plan_by : Option ℕ → Option Form
+plan_by None = Some (OnTable Plan)
+plan_by (Some length) = plan_bits (div_ceil length bit_time)
+
+-- What is found within bounds, where some are given, and none is past its limit.
+abbrev pub margins_by : Result (Option Bounds) PastLimit → Option Form
+margins_by (Ok (Some bounds)) = Some (OnTable (Margins bounds))
+margins_by (Ok None) = None
+margins_by (Err past) = None
+
+abbrev pub diagnose_by : Result (Option Bounds) PastLimit → Option Form
+diagnose_by (Ok (Some bounds)) = Some (OnTrace (Diagnose bounds))
+diagnose_by (Ok None) = None
+diagnose_by (Err past) = None
+
+-- ---- forms without options
+-- `check T`, `tolerance T`, `tidy T`, `report T`, `witness T`, `explain T`, `facts T`, `drill N`.
+abbrev pub two_plain : List ℕ → List ℕ → Option Form
+two_plain command second =
+    if bytes_eq command (codes "check") then Some (OnTable Check)
+    else if bytes_eq command (codes "tolerance") then Some (OnTable Tolerance)
+    else if bytes_eq command (codes "tidy") then Some (OnTable Tidy)
+    else if bytes_eq command (codes "report") then Some (OnTable Report)
+    else if bytes_eq command (codes "witness") then Some (OnTable Witness)
+    else if bytes_eq command (codes "explain") then Some Explain
+    else if bytes_eq command (codes "facts") then Some Facts
+    else if bytes_eq command (codes "drill") && is_drill_number second then Some (Drill (decimal_value second))
+    else None
+
+-- `plan T best`, `explain T F`, `run T M`, `drop T M`, `schedule T M`, `receive T R`, `audit T R`, `vote T R`, `wave T R`, `unwave T W`.
+abbrev pub three_plain : List ℕ → List ℕ → Option Form
+three_plain command third =
+    if bytes_eq command (codes "plan") && bytes_eq third (codes "best") then Some (plan_for Greatest)
     else if bytes_eq command (codes "explain") then Some ExplainBeside
     else if bytes_eq command (codes "run") then Some (OnMessages Run)
     else if bytes_eq command (codes "drop") then Some (OnMessages Drop)
@@ -78,34 +101,46 @@ three_words command third =
     else None
 
 -- `observe T M N`, `cable T C N`
-abbrev pub four_words : List ℕ → List ℕ → Option Form
-four_words command horizon =
+abbrev pub four_plain : List ℕ → List ℕ → Option Form
+four_plain command horizon =
     if bytes_eq command (codes "observe") && is_horizon horizon then Some (OnMessages (Observe (decimal_value horizon)))
     else if bytes_eq command (codes "cable") && is_horizon horizon then Some (Cable (decimal_value horizon))
     else None
 
--- `margins T D J P`
-abbrev pub five_words : (command delay jitter clocks : List ℕ) → Option Form
-five_words command delay jitter clocks =
-    if bytes_eq command (codes "margins") && are_bounds delay jitter clocks then Some (OnTable (Margins (bounds_of delay jitter clocks)))
-    else None
+-- ---- forms with options
+-- `margins T` with bounds, `plan T` with a delay or without; another form of two words.
+abbrev pub two_words : (command second : List ℕ) → Options → Option Form
+two_words command second options =
+    if bytes_eq command (codes "margins") then given taken.bounds options (margins_by (bounds_of options))
+    else if bytes_eq command (codes "plan") then given taken.delay options (plan_by options.delay)
+    else given taken.none options (two_plain command second)
 
--- `diagnose T R D J P`
-abbrev pub six_words : (command delay jitter clocks : List ℕ) → Option Form
-six_words command delay jitter clocks =
-    if bytes_eq command (codes "diagnose") && are_near_bounds delay jitter clocks
-    then Some (OnTrace (Diagnose (bounds_of delay jitter clocks)))
-    else None
+-- `diagnose T R` with bounds; another form of three words.
+abbrev pub three_words : (command third : List ℕ) → Options → Option Form
+three_words command third options =
+    if bytes_eq command (codes "diagnose") then given taken.bounds options (diagnose_by (near_bounds_of options))
+    else given taken.none options (three_plain command third)
 
--- The form of these words, whatever the words T and M are.
+-- A form of four words.
+abbrev pub four_words : (command fourth : List ℕ) → Options → Option Form
+four_words command fourth options = given taken.none options (four_plain command fourth)
+
+-- The form of a command and its plain words, whatever the words T, M, R, C, F and W are, with these options behind.
+abbrev pub form_with : List (List ℕ) → Options → Option Form
+form_with (command ∷ second ∷ []) options = two_words command second options
+form_with (command ∷ table ∷ third ∷ []) options = three_words command third options
+form_with (command ∷ table ∷ other ∷ fourth ∷ []) options = four_words command fourth options
+form_with words options = None
+
+abbrev pub form_by : List (List ℕ) → Result Line OptionError → Option Form
+form_by words (Ok line) = form_with (take line.plain words) line.options
+form_by words (Err error) = None
+
+-- The form of the words of a command line.
 abbrev pub form_of : List (List ℕ) → Option Form
+form_of [] = None
 form_of (word ∷ []) = one_word word
-form_of (command ∷ second ∷ []) = two_words command second
-form_of (command ∷ table ∷ other ∷ []) = three_words command other
-form_of (command ∷ table ∷ messages ∷ horizon ∷ []) = four_words command horizon
-form_of (command ∷ table ∷ delay ∷ jitter ∷ clocks ∷ []) = five_words command delay jitter clocks
-form_of (command ∷ table ∷ trace ∷ delay ∷ jitter ∷ clocks ∷ []) = six_words command delay jitter clocks
-form_of words = None
+form_of (command ∷ second ∷ further) = form_by (command ∷ second ∷ further) (line_of (command ∷ second ∷ further))
 
 -- ---- what a group takes
 -- The most bytes that a wave text may have.

@@ -11,7 +11,7 @@
 //! # How a command flows
 //!
 //! ```
-//! words ── forms ─── Form
+//! words ── bus_options::line_of ── Line ── Form
 //! first file ── bus_outer::read_whole ── bytes ── bus_table::read_table ── Table ── bus_regime::verdict ── TableVerdict
 //! second file ── read_whole ── bytes ── bus_hands::read_hands ── a Hand for each sender
 //!          or ── bus_trace::read_trace ── Trace
@@ -85,6 +85,7 @@ mod tolerance;
 mod top;
 mod wave;
 mod witness;
+mod words;
 
 pub use bus_command::{Status, outcome_text};
 pub use command::act;

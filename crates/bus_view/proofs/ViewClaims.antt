@@ -7,12 +7,10 @@ use Rattle.bus_regime.specs.Verdicts.{verdict_of}
 use Rattle.bus_shapes.specs.declared.told.Told.TheVariants.{Findings}
 use Rattle.bus_trace.specs.TraceLaws.{ReadsBack}
 use Rattle.bus_trace.specs.Traces.{Recording}
-use Rattle.std.specs.Str.{bytes_eq}
-use Rattle.std.specs.Option.{option_and_then}
+use Rattle.std.specs.Option.{option_map}
 use Rattle.bus_bounds.specs.Bounds.{Bounds, most_delay, most_jitter, most_clocks}
-use Rattle.bus_text.specs.Numbers.{decimal_value}
-use Rattle.bus_command.specs.Bounding.{AreNear, bounds_of, is_within}
-use Rattle.bus_command.proofs.BoundingLaws.{bounds_with, near_written, within_is}
+use Rattle.bus_options.specs.Bounding.{AreNear, bounds_of, near_bounds_of}
+use Rattle.bus_view.proofs.FormLemmas.{front_two, front_three, with_options}
 use Rattle.bus_trace.specs.Windows.{Window, IsWindow}
 use Rattle.bus_dump.specs.declared.dump.Dump.{Dump as AnyDump}
 use Rattle.bus_dump.specs.declared.dump.Dump.TheVariants.{Vcd, Wires, Timers}
@@ -20,7 +18,6 @@ use Rattle.bus_dump.specs.Laws.{BreachIsTold, ClearListsShowNone}
 use Rattle.bus_dump.specs.TimerLaws.{LawfulIsSingle}
 use Rattle.bus_schedule.specs.Laws.{AcceptedIsClosed}
 use Rattle.bus_schedule.specs.Runs.{IsClear}
-use Rattle.bus_view.proofs.WindowLemmas.{spelled}
 use Rattle.bus_command.specs.declared.about.About.{About}
 use Rattle.bus_command.specs.declared.about.About.TheVariants.{Help, Version}
 use Rattle.bus_command.specs.About.{IsAbout, about_word}
@@ -42,14 +39,14 @@ use Rattle.bus_command.proofs.TextLemmas.{short_text}
 use Rattle.bus_command.proofs.ToldLemmas.{table_told}
 use Rattle.bus_view.specs.Acts.{view_program, Acts}
 use Rattle.bus_view.specs.Answering.{Answers as Replies, IsTextOf, Refuses}
-use Rattle.bus_view.specs.Asking.{view_word, AreFurther, AreForWindow, AreForAsked, AreOfAsked, AreOfBounds, IsPageOf, IsPictureOf, IsViewOf}
+use Rattle.bus_view.specs.Asking.{IsPageOf, IsPictureOf, IsViewOf, bounds_in, view_word, window_in}
 use Rattle.bus_view.specs.Claims.{AnswersDump, IsJudged, page_status}
 use Rattle.bus_view.specs.Keeping.{Keeps}
 use Rattle.bus_view.specs.Replies.{Is, TheDump, TheSaveFile, ThePicture, ThePage, OfItself}
 use Rattle.bus_view.specs.Due.{first_breach, named_breach, told_of, single_outcome, recorded_answer, view_answer, drawing, painting, saved, window_or_whole, IsJudging, IsOfView, IsPage, IsView, page, page_answer}
 use Rattle.bus_view.proofs.PageLaws.{page_answers}
 use Rattle.bus_view.proofs.ReplyLemmas.{is_text, replies, text_status}
-use Rattle.bus_view.specs.Forms.{Form, OnTrace, OnItself, Page, page_of, page_within, on_trace, View, Dump, SaveFile, Painted, Judged, Picture, TimeLine, Cycles, drawn, judged, three_words, view_of, window_of, form_of, hears}
+use Rattle.bus_view.specs.Forms.{OnTrace, OnItself, Page, View, Dump, SaveFile, Painted, Judged, Picture, TimeLine, Cycles, form_of, hears, page_by, view_by, window_by}
 use Rattle.bus_view.specs.Itself.{itself_text}
 use Rattle.bus_view.specs.Refusals.{Doubled, Outcome, ends_of, status_of}
 
@@ -60,55 +57,27 @@ IsSound (Painted picture window) = IfSome window IsWindow
 IsSound (SaveFile window) = IfSome window IsWindow
 IsSound (Judged picture bounds window) = AreNear bounds × IfSome window IsWindow
 
--- a command that draws, with the words of its window
-window_asked : (command : List ℕ) (window : Option Window) (first second : List ℕ) (further : List (List ℕ)) → three_words command ≡ drawn command None
-    → AreForWindow window further → IfSome window IsWindow → view_of (command ∷ first ∷ second ∷ further) ≡ drawn command window
-window_asked command None first second further plain w s = ap (λ f. view_of (command ∷ first ∷ second ∷ f)) w ∙ plain
-window_asked command (Some window) first second further plain w s =
-    ap (λ f. view_of (command ∷ first ∷ second ∷ f)) w.form
-    ∙ ap (λ o. option_and_then (λ x. drawn command (Some x)) o) (spelled window w.first w.second s w.from w.to)
-
--- one that draws what is found, with the words of its bounds and of its window
-bounds_asked : (command : List ℕ) (bounds : Bounds) (window : Option Window) (first second : List ℕ) (further : List (List ℕ)) → AreNear bounds
-    → AreOfBounds bounds window further → IfSome window IsWindow → view_of (command ∷ first ∷ second ∷ further) ≡ judged command bounds window
-bounds_asked command bounds None first second further near w s =
-    ap (λ f. view_of (command ∷ first ∷ second ∷ f)) (w.form ∙ ap (λ o. w.delay ∷ w.jitter ∷ w.clocks ∷ o) w.window_is)
-    ∙ ap (λ o. option_and_then (λ b. judged command b None) o) (near_written bounds w.delay w.jitter w.clocks near w.delay_is w.jitter_is w.clocks_is)
-bounds_asked command bounds (Some window) first second further near w s =
-    let both = w.window_is in
-    ap (λ f. view_of (command ∷ first ∷ second ∷ f)) (w.form ∙ ap (λ o. w.delay ∷ w.jitter ∷ w.clocks ∷ o) both.form)
-    ∙ ap (λ o. option_and_then (λ b. option_and_then (λ x. judged command b (Some x)) (window_of both.first both.second)) o)
-    (near_written bounds w.delay w.jitter w.clocks near w.delay_is w.jitter_is w.clocks_is)
-    ∙ ap (λ o. option_and_then (λ x. judged command bounds (Some x)) o) (spelled window both.first both.second s both.from both.to)
-
-view_asked : (view : View) (first second : List ℕ) (further : List (List ℕ)) → AreFurther view further → IsSound view
-    → view_of (view_word view ∷ first ∷ second ∷ further) ≡ Some view
-view_asked (Dump Vcd window) first second further w s = window_asked (codes "vcd") window first second further refl w s
-view_asked (Dump Wires window) first second further w s = window_asked (codes "wires") window first second further refl w s
-view_asked (Dump Timers window) first second further w s = window_asked (codes "timers") window first second further refl w s
-view_asked (SaveFile window) first second further w s = window_asked (codes "gtkw") window first second further refl w s
-view_asked (Painted TimeLine window) first second further w s = window_asked (codes "svg") window first second further refl w s
-view_asked (Painted Cycles window) first second further w s = window_asked (codes "cycles") window first second further refl w s
-view_asked (Judged TimeLine bounds window) first second further w s = bounds_asked (codes "svg") bounds window first second further s.0 w s.1
-view_asked (Judged Cycles bounds window) first second further w s = bounds_asked (codes "cycles") bounds window first second further s.0 w s.1
-
--- no view is asked for by the word of a page
-not_page : (view : View) → bytes_eq (view_word view) (codes "page") ≡ false
-not_page (Dump Vcd window) = refl
-not_page (Dump Wires window) = refl
-not_page (Dump Timers window) = refl
-not_page (SaveFile window) = refl
-not_page (Painted TimeLine window) = refl
-not_page (Painted Cycles window) = refl
-not_page (Judged TimeLine bounds window) = refl
-not_page (Judged Cycles bounds window) = refl
+-- the view of its own word, bounds and window
+view_asked : (view : View) → view_by (view_word view) (Ok (bounds_in view)) (Ok (window_in view)) ≡ Some view
+view_asked (Dump Vcd window) = refl
+view_asked (Dump Wires window) = refl
+view_asked (Dump Timers window) = refl
+view_asked (SaveFile window) = refl
+view_asked (Painted TimeLine window) = refl
+view_asked (Painted Cycles window) = refl
+view_asked (Judged TimeLine bounds window) = refl
+view_asked (Judged Cycles bounds window) = refl
 
 -- the words of a view ask for it
-asked : (view : View) (words : List (List ℕ)) (first second : List ℕ) (further : List (List ℕ)) → words ≡ view_word view ∷ first ∷ second ∷ further → AreFurther view further → IsSound view → form_of words ≡ Some (OnTrace view)
-asked view words first second further h w s =
-    let these : List (List ℕ) = view_word view ∷ first ∷ second ∷ further in
-    ap form_of h ∙ ap (λ (b : Bool). cond b (page_of these) (on_trace (view_of these))) (not_page view)
-    ∙ ap on_trace (view_asked view first second further w s)
+asked : (view : View) (table : Table) (trace : Recording) (call : Call) → IsViewOf view table trace call → form_of call.words ≡ Some (OnTrace view)
+asked view table trace call h =
+    let form = h.call_is.form in
+    with_options (view_word view) form.first (form.second ∷ h.behind) call.words (record { plain = 3; options = h.options }) form.form h.given.line
+    ∙ front_three (view_word view) form.first form.second h.behind h.options
+    ∙ ap (λ b. option_map OnTrace (cond b (view_by (view_word view) (near_bounds_of h.options) (window_by h.options.from h.options.to)) None)) h.given.taken
+    ∙ ap (λ bounds. option_map OnTrace (view_by (view_word view) bounds (window_by h.options.from h.options.to))) h.bounds
+    ∙ ap (λ window. option_map OnTrace (view_by (view_word view) (Ok (bounds_in view)) window)) h.window
+    ∙ ap (option_map OnTrace) (view_asked view)
 
 -- the laws of the crates below, by which it follows
 pub record DrawLaws : Type 0 where
@@ -143,7 +112,7 @@ module _ (laws : DrawLaws) (view : View) (call : Call) (outcome : Outcome) (tabl
 
   did : Rattle.bus_command.specs.Acts.DoesForm view_program (OnTrace view) call.before call.after outcome
   did = does_of view_program call outcome (OnTrace view)
-      (asked view call.words h.call_is.form.first h.call_is.form.second h.further h.call_is.form.form h.window sound) acts
+      (asked view table trace call h) acts
 
   pub shown : (behind : Option ℕ) → ((text : List ℕ) → IsOfView view table trace known text → IsOfView view table trace behind text)
       → kind_of (view_answer view table trace) ≡ Answer
@@ -237,24 +206,12 @@ judge_claim laws call outcome picture bounds window table trace garbled n s acts
     (told_behind (Judged picture bounds window) table trace garbled call h) is) refl)
 
 -- ---- pages
--- the plain decimals of bounds are these
-bounds_written : (bounds : Bounds) (further : List (List ℕ)) (w : AreOfAsked bounds further)
-    → page_within w.delay w.jitter w.clocks ≡ Some (Page (Some bounds))
-bounds_written bounds further w =
-    let some : Bounds → Option Form = λ b. Some (Page (Some b)) in
-    let given = bounds_of w.delay w.jitter w.clocks in
-    ap (λ b. cond (b && (is_within most_jitter w.jitter && is_within most_clocks w.clocks)) (some given) None)
-    (within_is most_delay bounds.delay w.delay w.delay_is w.within.delay)
-    ∙ ap (λ b. cond (b && is_within most_clocks w.clocks) (some given) None) (within_is most_jitter bounds.jitter w.jitter w.jitter_is w.within.jitter)
-    ∙ ap (λ b. cond b (some given) None) (within_is most_clocks bounds.clocks w.clocks w.clocks_is w.within.clocks)
-    ∙ ap (λ n. some (bounds_with n (decimal_value w.jitter) (decimal_value w.clocks))) w.delay_is.value
-    ∙ ap (λ n. some (bounds_with bounds.delay n (decimal_value w.clocks))) w.jitter_is.value
-    ∙ ap (λ n. some (bounds_with bounds.delay bounds.jitter n)) w.clocks_is.value
-
-page_words : (asked : Option Bounds) (path : List ℕ) (further : List (List ℕ)) → AreForAsked asked further
-    → page_of (codes "page" ∷ path ∷ further) ≡ Some (Page asked)
-page_words None path further w = ap (λ f. page_of (codes "page" ∷ path ∷ f)) w
-page_words (Some bounds) path further w = ap (λ f. page_of (codes "page" ∷ path ∷ f)) w.form ∙ bounds_written bounds further w
+-- the words of a page ask for it
+page_words : (asked : Option Bounds) (text : List ℕ) (call : Call) → IsPageOf asked text call → form_of call.words ≡ Some (Page asked)
+page_words asked text call h =
+    with_options (codes "page") h.path h.behind call.words (record { plain = 2; options = h.options }) h.form h.given.line
+    ∙ front_two (codes "page") h.path h.behind h.options
+    ∙ ap (λ b. cond b (page_by (bounds_of h.options)) None) h.given.taken ∙ ap page_by h.bounds
 
 page_claim : (call : Call) (outcome : Outcome) (asked : Option Bounds) (text : List ℕ) → Acts call outcome → IsPageOf asked text call
     → Replies call (status_of outcome) (page_status (answer_of text)) (Is (ThePage asked text))
@@ -263,7 +220,7 @@ page_claim call outcome asked text acts h =
     (claimed ends_of page_answer (IsPage asked) (one_source entire) (λ first. refusal_in (text_due 1 first)) (λ a b. text_due 1 a)
     text [] text (IsTextOf (Is (ThePage asked text))) call outcome (at_one entire call.before.sources text h.told)
     (short_text {R = Doubled} text_limit 1 text h.short) (page_answers text) (λ written is. is_text (ThePage asked text) (page asked text) written refl is)
-    (does_of view_program call outcome (Page asked) (ap form_of h.form ∙ page_words asked h.path h.further h.further_are) acts) h.undisturbed)
+    (does_of view_program call outcome (Page asked) (page_words asked text call h) acts) h.undisturbed)
 
 itself_form : (about : About) (words : List (List ℕ)) → words ≡ about_word about ∷ [] → form_of words ≡ Some (OnItself about)
 itself_form Help words h = ap form_of h

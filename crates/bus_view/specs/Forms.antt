@@ -1,16 +1,22 @@
 -- The forms of the command line: each asks for a view of a trace, for the page of a table, or for what the program tells of itself. A word
 -- is its bytes.
-use Rattle.std.specs.Prelude.{ℕ, ◌≤◌, List, [], ◌∷◌, Bool, true, false, ◌&&◌, nat_lt, nat_le, codes, Option, Some, None, if◌then◌else◌}
-use Rattle.std.specs.Option.{option_and_then, option_map, option_map_or}
+use Rattle.std.specs.Prelude.{ℕ, ◌≤◌, List, [], ◌∷◌, Bool, true, false, ◌&&◌, nat_lt, nat_le, codes, take, if◌then◌else◌}
+use Rattle.std.specs.Prelude.{Option, Some, None, Result, Ok, Err}
+use Rattle.std.specs.Int.{div_ceil}
+use Rattle.std.specs.Option.{option_map, option_map_or}
 use Rattle.std.specs.Str.{bytes_eq}
 use Rattle.bus_strings.specs.Limits.{horizon_limit}
-use Rattle.bus_text.specs.Numbers.{is_plain_decimal, decimal_value}
+use Rattle.bus_units.specs.Quantities.{bit_time}
 use Rattle.bus_dump.specs.declared.dump.Dump.{Dump as AnyDump}
 use Rattle.bus_dump.specs.declared.dump.Dump.TheVariants as dump
 use Rattle.bus_trace.specs.Windows.{Window}
 use Rattle.bus_bounds.specs.Bounds.{Bounds}
 use Rattle.bus_command.specs.About.{about_of}
-use Rattle.bus_command.specs.Bounding.{are_bounds, bounds_of, most_near_delay, near_bounds_of}
+pub use Rattle.bus_options.specs.Bounding.{PastLimit, bounds_of, most_near_delay, near_bounds_of}
+pub use Rattle.bus_options.specs.Options.{Line, OptionError, Options, line_of, no_options}
+pub use Rattle.bus_options.specs.Taken.{takes}
+use Rattle.bus_options.specs.Taken as taken
+pub use Rattle.bus_view.specs.declared.words.NoWindow.{NoWindow}
 pub use Rattle.bus_view.specs.declared.forms.Form.{Form}
 pub use Rattle.bus_view.specs.declared.forms.Form.TheVariants.{OnTrace, OnItself, Page}
 pub use Rattle.bus_view.specs.declared.forms.Picture.{Picture}
@@ -19,16 +25,21 @@ pub use Rattle.bus_view.specs.declared.forms.View.{View}
 pub use Rattle.bus_view.specs.declared.forms.View.TheVariants.{Dump, SaveFile, Picture as Painted, Judged}
 
 -- ---- windows
--- Whether two words are the plain decimals of a window: a moment and a later one, at most the limit of a horizon.
-abbrev pub is_window : List ℕ → List ℕ → Bool
-is_window from to =
-    is_plain_decimal from && is_plain_decimal to && nat_lt (decimal_value from) (decimal_value to)
-    && nat_le (decimal_value to) horizon_limit
+abbrev pub no_window : NoWindow
+no_window = record { }
 
--- The window that they write.
-abbrev pub window_of : List ℕ → List ℕ → Option Window
-window_of from to =
-    if is_window from to then Some (record { from = decimal_value from; to = decimal_value to }) else None
+-- The window from a moment to a later one, at most the limit of a horizon, in bit times.
+abbrev pub window_bits : (from to : ℕ) → Result (Option Window) NoWindow
+window_bits from to =
+    if nat_lt from to && nat_le to horizon_limit then Ok (Some (record { from = from; to = to })) else Err no_window
+
+-- The window that two moments in nanoseconds ask for, each rounded up to bit times: from the first moment on, or from 0; without either
+-- none, and none without its end.
+abbrev pub window_by : (from to : Option ℕ) → Result (Option Window) NoWindow
+window_by None None = Ok None
+window_by (Some from) None = Err no_window
+window_by None (Some to) = window_bits 0 (div_ceil to bit_time)
+window_by (Some from) (Some to) = window_bits (div_ceil from bit_time) (div_ceil to bit_time)
 
 -- ---- forms
 -- The dump of a command.
@@ -58,64 +69,51 @@ dumped_or_painted command window = option_map_or (λ dump. Some (Dump dump windo
 abbrev pub drawn : List ℕ → Option Window → Option View
 drawn command window = if bytes_eq command (codes "gtkw") then Some (SaveFile window) else dumped_or_painted command window
 
--- `vcd T R`, `wires T R`, `timers T R`, `gtkw T R`, `svg T R`, `cycles T R`
-abbrev pub three_words : List ℕ → Option View
-three_words command = drawn command None
-
--- `vcd T R FROM TO`, `wires T R FROM TO`, `timers T R FROM TO`, `gtkw T R FROM TO`, `svg T R FROM TO`, `cycles T R FROM TO`
-abbrev pub five_words : List ℕ → List ℕ → List ℕ → Option View
-five_words command from to = option_and_then (λ window. drawn command (Some window)) (window_of from to)
-
 -- The picture of a command with what is found within bounds, of all of a trace or of a window of it.
 abbrev pub judged : List ℕ → Bounds → Option Window → Option View
 judged command bounds window = option_map (λ picture. Judged picture bounds window) (picture_of command)
 
--- `svg T R D J P`, `cycles T R D J P`
-abbrev pub six_words : (command delay jitter clocks : List ℕ) → Option View
-six_words command delay jitter clocks = option_and_then (λ bounds. judged command bounds None) (near_bounds_of delay jitter clocks)
+-- The view of a command, within the bounds and of the window that are asked for.
+abbrev pub view_by : List ℕ → Result (Option Bounds) PastLimit → Result (Option Window) NoWindow → Option View
+view_by command (Ok None) (Ok window) = drawn command window
+view_by command (Ok (Some bounds)) (Ok window) = judged command bounds window
+view_by command (Ok bounds) (Err error) = None
+view_by command (Err past) window = None
 
--- `svg T R D J P FROM TO`, `cycles T R D J P FROM TO`
-abbrev pub eight_words : (command delay jitter clocks from to : List ℕ) → Option View
-eight_words command delay jitter clocks from to =
-    option_and_then (λ bounds. option_and_then (λ window. judged command bounds (Some window)) (window_of from to))
-    (near_bounds_of delay jitter clocks)
-
--- The view that these words ask for, whatever the words T and R are.
-abbrev pub view_of : List (List ℕ) → Option View
-view_of (command ∷ table ∷ trace ∷ []) = three_words command
-view_of (command ∷ table ∷ trace ∷ from ∷ to ∷ []) = five_words command from to
-view_of (command ∷ table ∷ trace ∷ delay ∷ jitter ∷ clocks ∷ []) = six_words command delay jitter clocks
-view_of (command ∷ table ∷ trace ∷ delay ∷ jitter ∷ clocks ∷ from ∷ to ∷ []) = eight_words command delay jitter clocks from to
-view_of words = None
+-- `vcd T R`, `wires T R`, `timers T R`, `gtkw T R`, `svg T R`, `cycles T R`, with a window; the last two with bounds too.
+abbrev pub view_of : List ℕ → Options → Option View
+view_of command options =
+    if takes taken.bounds_and_window options then view_by command (near_bounds_of options) (window_by options.from options.to) else None
 
 -- `--help`, `--version`.
 abbrev pub one_word : List ℕ → Option Form
 one_word word = option_map OnItself (about_of word)
 
--- A view, as a form.
-abbrev pub on_trace : Option View → Option Form
-on_trace view = option_map OnTrace view
+-- The page within bounds, where some are asked for.
+abbrev pub page_by : Result (Option Bounds) PastLimit → Option Form
+page_by (Ok asked) = Some (Page asked)
+page_by (Err past) = None
 
--- The page within the bounds that three words write.
-abbrev pub page_within : (delay jitter clocks : List ℕ) → Option Form
-page_within delay jitter clocks =
-    if are_bounds delay jitter clocks then Some (Page (Some (bounds_of delay jitter clocks))) else None
+-- `page T`, with bounds.
+abbrev pub page_of : List ℕ → Options → Option Form
+page_of command options =
+    if bytes_eq command (codes "page") && takes taken.bounds options then page_by (bounds_of options) else None
 
--- `page T`, `page T D J P`, whatever the word T is.
-abbrev pub page_of : List (List ℕ) → Option Form
-page_of (command ∷ table ∷ []) = Some (Page None)
-page_of (command ∷ table ∷ delay ∷ jitter ∷ clocks ∷ []) = page_within delay jitter clocks
-page_of words = None
+-- The form of a command and its plain words, whatever the words T and R are, with these options behind.
+abbrev pub form_with : List (List ℕ) → Options → Option Form
+form_with (command ∷ table ∷ []) options = page_of command options
+form_with (command ∷ table ∷ trace ∷ []) options = option_map OnTrace (view_of command options)
+form_with words options = None
 
--- What these words ask for, by the first of them.
-abbrev pub asked_by : List ℕ → List (List ℕ) → Option Form
-asked_by command words = if bytes_eq command (codes "page") then page_of words else on_trace (view_of words)
+abbrev pub form_by : List (List ℕ) → Result Line OptionError → Option Form
+form_by words (Ok line) = form_with (take line.plain words) line.options
+form_by words (Err error) = None
 
--- What these words ask for.
+-- The form of the words of a command line.
 abbrev pub form_of : List (List ℕ) → Option Form
 form_of [] = None
 form_of (word ∷ []) = one_word word
-form_of (command ∷ table ∷ further) = asked_by command (command ∷ table ∷ further)
+form_of (command ∷ table ∷ further) = form_by (command ∷ table ∷ further) (line_of (command ∷ table ∷ further))
 
 -- The delay of the bounds of a view, where it has bounds, is within its limit.
 abbrev pub IsNear : View → Type 0

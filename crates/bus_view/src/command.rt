@@ -8,12 +8,13 @@ ghost use Rattle.bus_view.specs.Forms as forms;
 ghost use Rattle.bus_view.specs.Forms.{OnTrace, IsNear};
 
 use crate::drawing::draw;
-use crate::forms::{Form, View, form_of};
+use crate::forms::{Form, View};
 use crate::itself::tell_itself;
 use crate::paging::page;
 use crate::painting::{paint, paint_judged};
 use crate::refusal::{Doubled, Outcome};
 use crate::saving::save;
+use crate::words::form_of;
 use bus_command::{Recorded, take_recorded};
 use bus_outer::{Sink, Source};
 use bus_strings::laws::texts_read_as_their_items;

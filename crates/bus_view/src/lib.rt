@@ -16,6 +16,7 @@ mod refusal;
 mod saving;
 mod top;
 mod windowing;
+mod words;
 
 pub use command::act;
 pub use forms::{Form, Picture, View};

@@ -1,7 +1,7 @@
 //! The pictures.
 ghost use Rattle.std.specs.Prelude.{◌≡◌, ◌≤◌, true, IfOk};
 ghost use Rattle.bus_command.specs.Acts.{Ends};
-ghost use Rattle.bus_command.specs.Bounding.{most_near_delay};
+ghost use Rattle.bus_options.specs.Bounding.{most_near_delay};
 ghost use Rattle.bus_command.specs.Outside.{sink_seen};
 ghost use Rattle.bus_command.specs.Readers.{by_recorded};
 ghost use Rattle.bus_command.specs.declared.outcome.Outcome.TheVariants.{Done};
