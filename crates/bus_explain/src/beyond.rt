@@ -25,18 +25,22 @@ fn level_wording(level: Level) -> &'static [u8]
     }
 }
 
-/// Writes what is said of an aperiodic table where clocks are off.
+/// Puts what is said of an aperiodic table where clocks are off.
+fn put_level<K: Sink>(text: &mut TextBuffer, sink: &mut K, table: &Table)
+    requires { table.now.mode ≡ Aperiodic }
+    ensures { Adds K.held K.faults sink.old sink.new text.old text.new (drifting_in Aperiodic table.now) }
+{
+    let level = level_of(table, drifting());
+    say(text, sink, level_wording(level), &[]);
+}
+
+/// Writes it.
 fn write_level<K: Sink>(table: &Table, out: &mut K) -> Result<(), WriteFault>
     requires { table.now.mode ≡ Aperiodic }
     ensures { WritesText K.held K.faults out.old out.new result (drifting_in Aperiodic table.now) }
 {
     let mut text = TextBuffer::new();
-    say(
-        &mut text,
-        out,
-        level_wording(level_of(table, drifting())),
-        &[],
-    );
+    put_level(&mut text, out, table);
     text.finish(out)
 }
 

@@ -95,11 +95,15 @@ abbrev pub some_text : Table → ℕ → List ℕ
 some_text table count =
     said the.NOBODY_TAKES.now [] ++ flat_map (sends_text table) table.senders ++ said the.IN_ALL.now (count ∷ all_sends table ∷ [])
 
--- Whether any terminal has a TAKE line.
+-- Whether a sender has a TAKE line, whether a listener has one, and whether any terminal does.
+abbrev pub sender_has_take : Sender → Bool
+sender_has_take sender = not (length sender.takes == 0)
+
+abbrev pub listener_has_take : Listener → Bool
+listener_has_take listener = not (length listener.takes == 0)
+
 abbrev pub has_take_line : Table → Bool
-has_take_line table =
-    list_any (λ (sender : Sender). not (length sender.takes == 0)) table.senders
-    || list_any (λ (listener : Listener). not (length listener.takes == 0)) table.listeners
+has_take_line table = list_any sender_has_take table.senders || list_any listener_has_take table.listeners
 
 -- The sentence of so many; where no terminal takes anything, that alone.
 abbrev pub count_text : Table → ℕ → List ℕ

@@ -1,6 +1,6 @@
 //! The SEND lines that nobody takes.
 ghost use Rattle.std.specs.Prelude.{◌≡◌};
-ghost use Rattle.std.specs.List.{flat_map};
+ghost use Rattle.std.specs.List.{flat_map, list_any};
 ghost use Rattle.bus_outer.specs.Texts.{Adds};
 ghost use Rattle.bus_takes.specs.Takes as definition;
 
@@ -8,7 +8,7 @@ use crate::wordings::{IN_ALL, NO_TAKES, NOBODY_TAKES, UNTAKEN};
 use bus_feeds::is_taken;
 use bus_outer::{Sink, TextBuffer};
 use bus_say::say;
-use bus_table::{SendLine, Sender, Table};
+use bus_table::{Listener, SendLine, Sender, Table};
 
 /// How many SEND lines of a sender nobody takes.
 fn untaken_of(table: &Table, sender: &Sender) -> usize
@@ -97,18 +97,27 @@ fn put_some<K: Sink>(text: &mut TextBuffer, sink: &mut K, table: &Table, count: 
     say(text, sink, IN_ALL, &[count, all_sends(table)]);
 }
 
+/// Whether any of these senders has a TAKE line.
+fn any_sender_takes(senders: &[Sender]) -> bool
+    ensures { result ≡ list_any definition.sender_has_take senders.now }
+{
+    senders.iter().any(|sender| !sender.takes().is_empty())
+}
+
+/// Whether any of these listeners has one.
+fn any_listener_takes(listeners: &[Listener]) -> bool
+    ensures { result ≡ list_any definition.listener_has_take listeners.now }
+{
+    listeners
+        .iter()
+        .any(|listener| !listener.takes().is_empty())
+}
+
 /// Whether any terminal has a TAKE line.
 fn has_take_line(table: &Table) -> bool
     ensures { result ≡ definition.has_take_line table.now }
 {
-    table
-        .senders()
-        .iter()
-        .any(|sender| !sender.takes().is_empty())
-        || table
-            .listeners()
-            .iter()
-            .any(|listener| !listener.takes().is_empty())
+    any_sender_takes(table.senders()) || any_listener_takes(table.listeners())
 }
 
 /// Puts the sentence of the SEND lines that nobody takes, of which there are so many, one or more.
