@@ -26,6 +26,7 @@ use Rattle.bus_explain.specs.Wholes.{whole_text}
 use Rattle.bus_margins.specs.Texts.{aperiodic_text}
 use Rattle.bus_margins_periodic.specs.Texts.{periodic_text}
 use Rattle.bus_reach.specs.Bearing.{tolerance_of}
+use Rattle.bus_takes.specs.Matrix.{matrix_text}
 use Rattle.bus_page.specs.Cycles.{Times, cycles_text}
 use Rattle.bus_page.specs.Feet.{foot_text, resting_text}
 use Rattle.bus_page.specs.Heads.{bare_head_text, bare_heading_text, bounds_of, figures_text, head_text, heading_text, section_text}
@@ -66,11 +67,15 @@ abbrev pub latencies_section : Table → (most : ℕ) → List ℕ
 latencies_section table most =
     section_text (codes "How old data are at most when they have been received") ++ latencies_text table most (tolerance_of table)
 
+-- Who sends and who takes.
+abbrev pub takers_section : Table → List ℕ
+takers_section table = section_text (codes "Who takes what") ++ matrix_text table
+
 -- All of them.
 abbrev pub pictures_text : Option Bounds → Table → (least most : ℕ) → List ℕ
 pictures_text asked table least most =
     cycle_picture table.mode table least most ++ limits_picture table ++ rooms_text asked table ++ waits_picture table most
-    ++ latencies_section table most
+    ++ latencies_section table most ++ takers_section table
 
 -- ---- the page of an accepted table
 -- What stands before its sentences.

@@ -25,6 +25,8 @@ looks_text =
     ++ codes "font-size:12px}dd{margin:0;font-size:16px;font-weight:bold}table{border-collapse:collapse;\n"
     ++ codes "font-variant-numeric:tabular-nums}th,td{padding:2px 14px 2px 0;text-align:right}th{font-weight:normal;\n"
     ++ codes "color:var(--small)}tbody tr{border-top:1px solid var(--grid)}svg{display:block;width:100%;height:auto}\n"
+    ++ codes ".wide{overflow-x:auto}.matrix td,.matrix th{border:1px solid var(--grid);min-width:16px;padding:0 3px;text-align:center;\n"
+    ++ codes "font-size:11px}.matrix .own{background:var(--grid)}caption{color:var(--small);text-align:left}\n"
 
 -- The looks of boxes and words in pictures.
 unfoldable pub shapes_text : List ℕ

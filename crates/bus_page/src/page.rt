@@ -24,6 +24,7 @@ use bus_bounds::Bounds;
 use bus_outer::{Sink, TextBuffer, WriteFault};
 use bus_table::laws::table_is_valid;
 use bus_table::{Mode, Table};
+use bus_takes::put_matrix;
 
 /// Puts the picture of the cycles of an aperiodic table.
 fn put_both_cycles<K: Sink>(text: &mut TextBuffer, sink: &mut K, table: &Table, figures: &Figures)
@@ -109,6 +110,14 @@ fn put_ages<K: Sink>(text: &mut TextBuffer, sink: &mut K, table: &Table, figures
     put_latencies(text, sink, table, figures.most, figures.tolerance);
 }
 
+/// Puts who sends and who takes.
+fn put_takers<K: Sink>(text: &mut TextBuffer, sink: &mut K, table: &Table)
+    ensures { Adds K.held K.faults sink.old sink.new text.old text.new (definition.takers_section table.now) }
+{
+    put_section(text, sink, b"Who takes what");
+    put_matrix(text, sink, table);
+}
+
 /// Puts all pictures of an accepted table.
 fn put_pictures<K: Sink>(
     text: &mut TextBuffer,
@@ -126,6 +135,7 @@ fn put_pictures<K: Sink>(
     put_rooms(text, sink, table, asked);
     put_waiting(text, sink, table, figures);
     put_ages(text, sink, table, figures);
+    put_takers(text, sink, table);
 }
 
 /// Writes what stands before the sentences of an accepted table.

@@ -35,7 +35,13 @@ fn write_refused_end<K: Sink>(
     ensures { WritesText K.held K.faults sink.old sink.new result
         (definition.refused_end program.now bytes.now refusal.now.verdict table.now) }
 {
-    write_refused(table, &refusal.verdict, &refusal.advices, &refusal.planned, sink)?;
+    write_refused(
+        table,
+        &refusal.verdict,
+        &refusal.advices,
+        &refusal.planned,
+        sink,
+    )?;
     write_foot(program, bytes, sink)
 }
 

@@ -11,7 +11,7 @@ use bus_table::{Listener, Sender, Table, TakeLine};
 
 /// What stands before the columns.
 pub(crate) const MATRIX: &[u8] =
-    b"<table class=\"matrix\">\n<caption>A mark stands where the terminal of the row takes words of the \
+    b"<div class=\"wide\"><table class=\"matrix\">\n<caption>A mark stands where the terminal of the row takes words of the \
     terminal of the column.</caption>\n<tr><td></td>";
 
 /// What stands before the number above a column, and before that of a row.
@@ -32,7 +32,7 @@ pub(crate) const EMPTY_CELL: &[u8] = b"<td></td>";
 /// What stands behind a row, and behind all.
 pub(crate) const ROW_END: &[u8] = b"</tr>\n";
 
-pub(crate) const MATRIX_END: &[u8] = b"</table>\n";
+pub(crate) const MATRIX_END: &[u8] = b"</table></div>\n";
 
 /// Whether the terminal of this number, with these TAKE lines, takes words of a sender.
 fn takes_of(number: u8, takes: &[TakeLine], sender: &Sender) -> bool
