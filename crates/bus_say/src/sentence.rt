@@ -62,12 +62,8 @@ fn behind(hole: Hole, byte: u8) -> Hole
 {
     match hole {
         Hole::Closed => opened_by(byte),
-        Hole::Number
-        | Hole::Plural
-        | Hole::Time
-        | Hole::About
-        | Hole::Label
-        | Hole::Extension => Hole::Closed,
+        Hole::Number | Hole::Plural | Hole::Time | Hole::About | Hole::Label | Hole::Extension =>
+            Hole::Closed,
     }
 }
 
@@ -87,12 +83,8 @@ fn put_letter<K: Sink>(text: &mut TextBuffer, sink: &mut K, byte: u8)
 {
     match opened_by(byte) {
         Hole::Closed => text.put_byte(sink, byte),
-        Hole::Number
-        | Hole::Plural
-        | Hole::Time
-        | Hole::About
-        | Hole::Label
-        | Hole::Extension => text.put(sink, b""),
+        Hole::Number | Hole::Plural | Hole::Time | Hole::About | Hole::Label | Hole::Extension =>
+            text.put(sink, b""),
     }
 }
 

@@ -26,7 +26,7 @@ pub use Rattle.bus_view.specs.declared.forms.View.TheVariants.{Dump, SaveFile, P
 
 -- ---- windows
 abbrev pub no_window : NoWindow
-no_window = record { }
+no_window = record {}
 
 -- The window from a moment to a later one, at most the limit of a horizon, in bit times.
 abbrev pub window_bits : (from to : ℕ) → Result (Option Window) NoWindow
