@@ -4,8 +4,8 @@ use Rattle.std.specs.List.{AllByRecursion, flat_map}
 use Rattle.std.proofs.lemmas.Bool.{and_parts, eqb-true, leb-true, leb-false, lt-leb, true≢false}
 use Rattle.bus_strings.proofs.MemberLaws.{in_append_right, of_each}
 use Rattle.bus_strings.specs.Members.{In}
-use Rattle.bus_shapes.specs.Laws.{PlacesRise}
-use Rattle.bus_shapes.specs.Scales.{IsScale, place}
+use Rattle.bus_pen.specs.Laws.{PlacesRise}
+use Rattle.bus_pen.specs.Scales.{IsScale, place}
 use Rattle.bus_shapes.specs.declared.sent.Sent.{Sent}
 use Rattle.bus_shapes.specs.Sending.{sents}
 use Rattle.bus_cycles.specs.Laws.{LeftOutAreCovered}

@@ -6,13 +6,13 @@ use Rattle.std.proofs.lemmas.Bool.{and_parts, leb-true, ltb-true, ltb-false}
 use Rattle.bus_strings.specs.Members.{In}
 use Rattle.bus_strings.proofs.MemberLaws.{of_each}
 use Rattle.bus_table.proofs.ValidLaws.{valid_facts}
-use Rattle.bus_shapes.specs.declared.area.Area.{Area}
-use Rattle.bus_shapes.specs.declared.class.Class.{Class}
-use Rattle.bus_shapes.specs.declared.class.Class.TheVariants.{Unobserved}
-use Rattle.bus_shapes.specs.Classes.{class_name}
-use Rattle.bus_shapes.specs.Shapes.{titled_end, titled_text}
-use Rattle.bus_shapes.specs.Laws.{PlacesLieWithin, PlacesRise}
-use Rattle.bus_shapes.specs.Scales.{place}
+use Rattle.bus_pen.specs.declared.area.Area.{Area}
+use Rattle.bus_pen.specs.declared.class.Class.{Class}
+use Rattle.bus_pen.specs.declared.class.Class.TheVariants.{Unobserved}
+use Rattle.bus_pen.specs.Classes.{class_name}
+use Rattle.bus_pen.specs.Shapes.{titled_end, titled_text}
+use Rattle.bus_pen.specs.Laws.{PlacesLieWithin, PlacesRise}
+use Rattle.bus_pen.specs.Scales.{place}
 use Rattle.bus_shapes.specs.declared.sent.Sent.{Sent}
 use Rattle.bus_cycles.specs.Cuts.{is_cut_before, is_cut_before_in, is_cut_behind, is_cut_behind_in}
 use Rattle.bus_cycles.specs.Laws.{CutAreOpen, OpenHidesNone, WholeAreSeen}

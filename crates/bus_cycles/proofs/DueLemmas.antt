@@ -11,10 +11,10 @@ use Rattle.bus_strings.proofs.MemberLaws.{of_each}
 use Rattle.bus_table.specs.declared.mode.Mode.TheVariants.{Periodic}
 use Rattle.bus_table.specs.Tables.{Sender, Table}
 use Rattle.bus_table.specs.Timers.{due_for, due_of}
-use Rattle.bus_shapes.specs.declared.class.Class.TheVariants.{Tick}
+use Rattle.bus_pen.specs.declared.class.Class.TheVariants.{Tick}
 use Rattle.bus_shapes.specs.declared.sent.Sent.{Sent}
-use Rattle.bus_shapes.specs.Scales.{place}
-use Rattle.bus_shapes.specs.Shapes.{box_text}
+use Rattle.bus_pen.specs.Scales.{place}
+use Rattle.bus_pen.specs.Shapes.{box_text}
 use Rattle.bus_audit.specs.Breaches.{held}
 use Rattle.bus_table.proofs.ValidLaws.{valid_facts}
 use Rattle.bus_cycles.specs.CyclesTexts.{begins}

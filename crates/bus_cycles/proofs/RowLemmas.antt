@@ -13,8 +13,8 @@ use Rattle.bus_strings.specs.Transmissions.{garbled}
 use Rattle.bus_table.specs.declared.mode.Mode.TheVariants.{Periodic}
 use Rattle.bus_table.specs.Tables.{Table}
 use Rattle.bus_table.proofs.ValidLaws.{valid_facts}
-use Rattle.bus_shapes.specs.declared.class.Class.TheVariants.{Garbled, GarbledNarrow, Other, Wordstring}
-use Rattle.bus_shapes.specs.Classes.{is_hatched}
+use Rattle.bus_pen.specs.declared.class.Class.TheVariants.{Garbled, GarbledNarrow, Other, Wordstring}
+use Rattle.bus_pen.specs.Classes.{is_hatched}
 use Rattle.bus_shapes.specs.declared.sent.Sent.{Sent}
 use Rattle.bus_trace.specs.Windows.{Window}
 use Rattle.bus_cycles.specs.Laws.{HatchedAreDrawnLast, HatchedAreGarbled, RowsAreAPartition, RowsAreIntervals}

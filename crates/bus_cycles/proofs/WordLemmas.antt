@@ -1,7 +1,7 @@
 -- The word of a breach stands behind all boxes.
 use Rattle.std.proofs.Common.{ℕ, ◌+◌, ◌-◌, ◌*◌, ◌/◌, ◌≤◌, max, arith}
-use Rattle.bus_shapes.specs.Laws.{PlacesLieWithin, PlacesRise}
-use Rattle.bus_shapes.specs.Scales.{IsScale, place}
+use Rattle.bus_pen.specs.Laws.{PlacesLieWithin, PlacesRise}
+use Rattle.bus_pen.specs.Scales.{IsScale, place}
 use Rattle.bus_cycles.specs.MarkLaws.{BreachWordHidesNone}
 use Rattle.bus_cycles.specs.Pages.{Page, page_of}
 use Rattle.bus_cycles.specs.RowTexts.{left_of, pixel, right_of}

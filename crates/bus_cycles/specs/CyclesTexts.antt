@@ -7,20 +7,20 @@ use Rattle.bus_table.specs.declared.mode.Mode.{Mode}
 use Rattle.bus_table.specs.declared.mode.Mode.TheVariants.{Aperiodic, Periodic}
 use Rattle.bus_table.specs.Tables.{Table}
 use Rattle.bus_trace.specs.Traces.{Recording}
-use Rattle.bus_shapes.specs.declared.axis.Axis.{Axis}
-use Rattle.bus_shapes.specs.declared.axis.Unit.TheVariants.{BitTimes, Microseconds}
-use Rattle.bus_shapes.specs.Axes.{axis_text}
-use Rattle.bus_shapes.specs.declared.class.Class.{Class}
-use Rattle.bus_shapes.specs.declared.class.Class.TheVariants.{Breach, Detail, Grid}
-use Rattle.bus_shapes.specs.declared.class.Class.TheVariants.{Mark, Note, Small, Tick}
+use Rattle.bus_pen.specs.declared.axis.Axis.{Axis}
+use Rattle.bus_pen.specs.declared.axis.Unit.TheVariants.{BitTimes, Microseconds}
+use Rattle.bus_pen.specs.Axes.{axis_text}
+use Rattle.bus_pen.specs.declared.class.Class.{Class}
+use Rattle.bus_pen.specs.declared.class.Class.TheVariants.{Breach, Detail, Grid}
+use Rattle.bus_pen.specs.declared.class.Class.TheVariants.{Mark, Note, Small, Tick}
 use Rattle.bus_shapes.specs.Frames.{frame_text, tail_text}
-use Rattle.bus_shapes.specs.Numbers.{parted}
+use Rattle.bus_pen.specs.Numbers.{parted}
 use Rattle.bus_shapes.specs.declared.told.Told.{Told}
-use Rattle.bus_shapes.specs.declared.scale.Scale.{Scale}
-use Rattle.bus_shapes.specs.Scales.{place}
-use Rattle.bus_shapes.specs.declared.area.Area.{Area}
-use Rattle.bus_shapes.specs.Shapes.{box_text, words_text}
-use Rattle.bus_shapes.specs.declared.measures.TheConstants.{LEFT_MARGIN as left_margin, RIGHT_MARGIN as right_margin}
+use Rattle.bus_pen.specs.declared.scale.Scale.{Scale}
+use Rattle.bus_pen.specs.Scales.{place}
+use Rattle.bus_pen.specs.declared.area.Area.{Area}
+use Rattle.bus_pen.specs.Shapes.{box_text, words_text}
+use Rattle.bus_pen.specs.declared.measures.TheConstants.{LEFT_MARGIN as left_margin, RIGHT_MARGIN as right_margin}
 use Rattle.bus_trace.specs.Windows.{Window}
 use Rattle.bus_cycles.specs.Cuts.{seen_of}
 use Rattle.bus_cycles.specs.Rows.{Extent, cycle_of, rows}

@@ -7,10 +7,10 @@ use Rattle.bus_trace.specs.declared.hold.Hold.{Hold}
 use Rattle.bus_table.specs.declared.mode.Mode.{Mode}
 use Rattle.bus_table.specs.declared.mode.Mode.TheVariants.{Aperiodic, Periodic}
 use Rattle.bus_table.specs.Tables.{Sender, Table}
-use Rattle.bus_shapes.specs.declared.area.Area.{Area}
-use Rattle.bus_shapes.specs.declared.class.Class.TheVariants.{Tick}
-use Rattle.bus_shapes.specs.Scales.{place}
-use Rattle.bus_shapes.specs.Shapes.{box_text}
+use Rattle.bus_pen.specs.declared.area.Area.{Area}
+use Rattle.bus_pen.specs.declared.class.Class.TheVariants.{Tick}
+use Rattle.bus_pen.specs.Scales.{place}
+use Rattle.bus_pen.specs.Shapes.{box_text}
 use Rattle.bus_cycles.specs.declared.measures.TheConstants.{DUE_TOP as due_top, DUE_WIDTH as due_width}
 use Rattle.bus_cycles.specs.Pages.{Page, top_of}
 use Rattle.bus_cycles.specs.Rows.{Row}

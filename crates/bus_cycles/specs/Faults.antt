@@ -5,12 +5,12 @@ use Rattle.std.specs.Option.{option_map_or}
 use Rattle.bus_findings.specs.declared.judgement.Judgement.{Judgement}
 use Rattle.bus_findings.specs.Terminals.{is_faulty}
 use Rattle.bus_findings.specs.Texts.{fault_title}
-use Rattle.bus_shapes.specs.declared.area.Area.{Area}
-use Rattle.bus_shapes.specs.declared.class.Class.TheVariants.{Fault, Note}
+use Rattle.bus_pen.specs.declared.area.Area.{Area}
+use Rattle.bus_pen.specs.declared.class.Class.TheVariants.{Fault, Note}
 use Rattle.bus_shapes.specs.declared.sent.Sent.{Sent}
 use Rattle.bus_shapes.specs.declared.told.Told.{Told}
 use Rattle.bus_shapes.specs.declared.told.Told.TheVariants.{Audit, OnCable, Findings}
-use Rattle.bus_shapes.specs.Shapes.{titled_text, words_text}
+use Rattle.bus_pen.specs.Shapes.{titled_text, words_text}
 use Rattle.bus_cycles.specs.declared.measures.TheConstants.{BREACH_LEFT as breach_left, FAULT_HEIGHT as fault_height}
 use Rattle.bus_cycles.specs.declared.measures.TheConstants.{FAULT_WIDTH as fault_width}
 use Rattle.bus_cycles.specs.Pages.{Page, top_of}

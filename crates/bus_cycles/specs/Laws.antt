@@ -10,11 +10,11 @@ use Rattle.bus_table.specs.Tables.{Sender, Table}
 use Rattle.bus_table.specs.Turns.{turn_order}
 use Rattle.bus_table.specs.Valid.{is_valid}
 use Rattle.bus_trace.specs.Traces.{Recording, IsTrace}
-use Rattle.bus_shapes.specs.Classes.{is_hatched}
+use Rattle.bus_pen.specs.Classes.{is_hatched}
 use Rattle.bus_shapes.specs.declared.sent.Sent.{Sent}
-use Rattle.bus_shapes.specs.declared.area.Area.{Area}
+use Rattle.bus_pen.specs.declared.area.Area.{Area}
 use Rattle.bus_shapes.specs.declared.counts.Counts.{Counts}
-use Rattle.bus_shapes.specs.Scales.{IsScale}
+use Rattle.bus_pen.specs.Scales.{IsScale}
 use Rattle.bus_shapes.specs.SendingLaws.{IsToldOf}
 use Rattle.bus_trace.specs.Windows.{Window}
 use Rattle.bus_cycles.specs.Loads.{busy_of, whole_of}

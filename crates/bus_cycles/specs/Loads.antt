@@ -6,9 +6,9 @@ use Rattle.bus_strings.specs.Messages.{Entry}
 use Rattle.bus_load.specs.Loads.{carrier_bits}
 use Rattle.bus_table.specs.declared.mode.Mode.{Mode}
 use Rattle.bus_table.specs.declared.mode.Mode.TheVariants.{Aperiodic, Periodic}
-use Rattle.bus_shapes.specs.declared.class.Class.TheVariants.{Detail}
-use Rattle.bus_shapes.specs.Numbers.{load_words}
-use Rattle.bus_shapes.specs.Shapes.{words_text}
+use Rattle.bus_pen.specs.declared.class.Class.TheVariants.{Detail}
+use Rattle.bus_pen.specs.Numbers.{load_words}
+use Rattle.bus_pen.specs.Shapes.{words_text}
 use Rattle.bus_cycles.specs.declared.measures.TheConstants.{LOAD_RIGHT as load_right}
 use Rattle.bus_cycles.specs.Pages.{Page}
 use Rattle.bus_cycles.specs.Rows.{Cycle, Extent, Row, extent_of}

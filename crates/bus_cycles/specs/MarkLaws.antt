@@ -7,9 +7,9 @@ use Rattle.bus_table.specs.Tables.{Table}
 use Rattle.bus_table.specs.Valid.{is_valid}
 use Rattle.bus_trace.specs.Traces.{Recording, IsTrace}
 use Rattle.bus_shapes.specs.declared.sent.Sent.{Sent}
-use Rattle.bus_shapes.specs.declared.area.Area.{Area}
+use Rattle.bus_pen.specs.declared.area.Area.{Area}
 use Rattle.bus_shapes.specs.declared.counts.Counts.{Counts}
-use Rattle.bus_shapes.specs.Scales.{IsScale}
+use Rattle.bus_pen.specs.Scales.{IsScale}
 use Rattle.bus_trace.specs.Windows.{Window}
 use Rattle.bus_findings.specs.declared.judgement.Judgement.{Judgement}
 use Rattle.bus_findings.specs.Terminals.{fault_sum, is_faulty}

@@ -2,7 +2,7 @@
 use Rattle.std.specs.Prelude.{ℕ, ◌+◌, ◌*◌, ◌==◌, min, if◌then◌else◌}
 use Rattle.bus_table.specs.Tables.{Table}
 use Rattle.bus_shapes.specs.declared.counts.Counts.{Counts}
-use Rattle.bus_shapes.specs.declared.scale.Scale.{Scale}
+use Rattle.bus_pen.specs.declared.scale.Scale.{Scale}
 use Rattle.bus_cycles.specs.Cuts.{seen_of}
 use Rattle.bus_cycles.specs.Lanes.{lanes_of}
 use Rattle.bus_cycles.specs.declared.measures.TheConstants.{PLAIN_ROW as plain_row, PLOT_LEFT as plot_left, PLOT_WIDTH as plot_width}

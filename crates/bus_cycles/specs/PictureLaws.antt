@@ -10,12 +10,12 @@ use Rattle.bus_table.specs.Timers.{due_of}
 use Rattle.bus_table.specs.Valid.{is_valid}
 use Rattle.bus_trace.specs.Traces.{Recording, IsTrace}
 use Rattle.bus_trace.specs.Windows.{Window}
-use Rattle.bus_shapes.specs.declared.class.Class.TheVariants.{Tick}
+use Rattle.bus_pen.specs.declared.class.Class.TheVariants.{Tick}
 use Rattle.bus_shapes.specs.declared.counts.Counts.{Counts}
 use Rattle.bus_shapes.specs.declared.sent.Sent.{Sent}
 use Rattle.bus_shapes.specs.declared.told.Told.{Told}
 use Rattle.bus_shapes.specs.declared.told.Told.TheVariants.{Audit, OnCable, Findings}
-use Rattle.bus_shapes.specs.Shapes.{box_text}
+use Rattle.bus_pen.specs.Shapes.{box_text}
 use Rattle.bus_cycles.specs.Cuts.{is_whole}
 use Rattle.bus_cycles.specs.CyclesTexts.{begins, breach_text, framed_in, listed_in, marks_text, page_in, survey_in, under_rows}
 use Rattle.bus_cycles.specs.Dues.{due_line, due_text, dues_text}

@@ -6,8 +6,9 @@ ghost use Rattle.bus_cycles.specs.RowTexts as definition;
 use crate::cycle::Extent;
 use crate::measures::{BOX_BELOW, NARROW_BOX, SLOT_BELOW};
 use crate::page::Page;
-use bus_shapes::measures::PIXEL;
-use bus_shapes::{Area, Class, Sent};
+use bus_pen::measures::PIXEL;
+use bus_pen::{Area, Class};
+use bus_shapes::Sent;
 
 /// How many slots a row has for garbled transmissions.
 const SLOTS: usize = 3;

@@ -17,9 +17,8 @@ use crate::row_words::put_ending;
 use crate::shown::Shown;
 use crate::survey::MOST_ROWS;
 use bus_outer::{Sink, TextBuffer};
-use bus_shapes::{
-    Area, Sent, begin_titled, begin_words, digits_class, end_titled, end_words, put_sent,
-};
+use bus_pen::{Area, begin_titled, begin_words, digits_class, end_titled, end_words};
+use bus_shapes::{Sent, put_sent};
 use bus_trace::{Trace, Window};
 
 /// How many shades there are: two, and one for each slot.

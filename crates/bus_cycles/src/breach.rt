@@ -1,8 +1,8 @@
 //! The first breach in a picture.
 ghost use Rattle.std.specs.Prelude.{◌<◌, ◌≤◌, ◌^◌, IfSome};
 ghost use Rattle.bus_outer.specs.Texts.{Adds};
-ghost use Rattle.bus_shapes.specs.declared.class.Class.TheVariants.{Breach};
-ghost use Rattle.bus_shapes.specs.Shapes.{box_text};
+ghost use Rattle.bus_pen.specs.declared.class.Class.TheVariants.{Breach};
+ghost use Rattle.bus_pen.specs.Shapes.{box_text};
 ghost use Rattle.bus_cycles.specs.CyclesTexts as definition;
 ghost use Rattle.bus_cycles.specs.inside.Bounds.{IsPage};
 
@@ -11,7 +11,7 @@ use crate::measures::{BREACH_BELOW, BREACH_HEIGHT, BREACH_LEFT, BREACH_OVER, BRE
 use crate::page::Page;
 use crate::survey::MOST_ROWS;
 use bus_outer::{Sink, TextBuffer};
-use bus_shapes::{Area, Class, put_box, put_words};
+use bus_pen::{Area, Class, put_box, put_words};
 
 /// A part of the line.
 fn put_part<K: Sink>(text: &mut TextBuffer, sink: &mut K, left: u64, top: u64)

@@ -7,7 +7,8 @@ ghost use Rattle.bus_cycles.specs.inside.Bounds.{IsPage};
 use crate::measures::{DUE_TOP, DUE_WIDTH};
 use crate::page::Page;
 use bus_outer::{Sink, TextBuffer};
-use bus_shapes::{Area, Class, held, put_box};
+use bus_pen::{Area, Class, put_box};
+use bus_shapes::held;
 use bus_table::{Sender, Table};
 use bus_trace::Hold;
 

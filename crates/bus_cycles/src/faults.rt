@@ -2,8 +2,8 @@
 ghost use Rattle.std.specs.Prelude.{◌≡◌, ◌<◌, ◌≤◌, ◌+◌, ◌-◌, ◌^◌, ◌∷◌, ◌||◌, length};
 ghost use Rattle.std.specs.List.{AllByRecursion};
 ghost use Rattle.bus_outer.specs.Texts.{Adds};
-ghost use Rattle.bus_shapes.specs.declared.class.Class.TheVariants.{Fault};
-ghost use Rattle.bus_shapes.specs.Shapes.{titled_text};
+ghost use Rattle.bus_pen.specs.declared.class.Class.TheVariants.{Fault};
+ghost use Rattle.bus_pen.specs.Shapes.{titled_text};
 ghost use Rattle.bus_cycles.specs.inside.Bounds.{IsPage, IsSent};
 ghost use Rattle.bus_cycles.specs.inside.Drawing.{next_row};
 ghost use Rattle.bus_cycles.specs.Faults as definition;
@@ -19,7 +19,8 @@ use crate::shown::Shown;
 use crate::survey::MOST_ROWS;
 use bus_findings::{Judgement, is_faulty, put_fault_title};
 use bus_outer::{Sink, TextBuffer};
-use bus_shapes::{Area, Class, Sent, Told, begin_titled, end_titled, put_words};
+use bus_pen::{Area, Class, begin_titled, end_titled, put_words};
+use bus_shapes::{Sent, Told};
 use bus_trace::{Trace, Window};
 
 /// A part of a mark, with its words under the pointer.

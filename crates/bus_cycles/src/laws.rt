@@ -10,7 +10,7 @@ ghost use Rattle.bus_cycles.specs.MarkLaws.{FaultsAreMarked, NoFaultIsMarked, Th
 ghost use Rattle.bus_cycles.specs.PictureLaws.{BoxesBeginWhereDue, BreachIsListed, CutAreListed, DuesAreListed, DuesAreMarked};
 ghost use Rattle.bus_cycles.specs.PictureLaws.{FaultsAreListed, GarbledAreListed, MarksHideNoBox, PlainAreListed};
 
-use bus_shapes::laws::places_keep_order;
+use bus_pen::laws::places_keep_order;
 
 /// The rows of a window are a partition: their transmissions, one behind the other, are exactly those that begin in the window, in order.
 pub fn rows_are_a_partition()

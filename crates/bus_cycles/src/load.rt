@@ -18,7 +18,8 @@ use crate::shown::Shown;
 use crate::survey::{MOST_ROWS, last_end_of};
 use bus_load::{Stretch, bits_within};
 use bus_outer::{Sink, TextBuffer};
-use bus_shapes::{Class, Sent, begin_words, end_words, put_load_share};
+use bus_pen::{Class, begin_words, end_words, put_load_share};
+use bus_shapes::Sent;
 use bus_table::Mode;
 use bus_trace::{Trace, Window};
 

@@ -9,8 +9,8 @@ use crate::cycle::Extent;
 use crate::measures::{BOX_BELOW, OPEN_LEFT, OPEN_RIGHT, OPEN_WIDTH};
 use crate::page::Page;
 use bus_outer::{Sink, TextBuffer};
-use bus_shapes::measures::PIXEL;
-use bus_shapes::{Area, Class, begin_titled, end_titled};
+use bus_pen::measures::PIXEL;
+use bus_pen::{Area, Class, begin_titled, end_titled};
 
 /// Where a row that is cut at its beginning is drawn open.
 fn before_area(page: &Page, row: u64) -> Area

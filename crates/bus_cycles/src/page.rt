@@ -1,7 +1,7 @@
 //! What all rows of a picture go by.
 ghost use Rattle.std.specs.Prelude.{◌≡◌, ◌<◌, ◌≤◌, ◌^◌};
 ghost use Rattle.bus_table.specs.Turned.{AreTurned};
-ghost use Rattle.bus_shapes.specs.Scales.{IsScale};
+ghost use Rattle.bus_pen.specs.Scales.{IsScale};
 ghost use Rattle.bus_cycles.specs.Lanes.{lane_of, lanes_of};
 ghost use Rattle.bus_cycles.specs.Pages as definition;
 ghost use Rattle.bus_cycles.specs.inside.Bounds.{IsPage};
@@ -11,8 +11,9 @@ use crate::cut::{Seen, seen_of};
 use crate::cycle::Cycle;
 use crate::measures::{MIDDLE_LINE, PLAIN_ROW, PLOT_LEFT, PLOT_WIDTH, ROWS_TOP, SPLIT_ROW};
 use crate::survey::{MOST_ROWS, Survey};
-use bus_shapes::measures::PIXEL;
-use bus_shapes::{Counts, Scale};
+use bus_pen::Scale;
+use bus_pen::measures::PIXEL;
+use bus_shapes::Counts;
 use bus_table::{MOST_SENDERS, Table, turn_at, turn_places};
 
 /// As many as a `u8` has values.

@@ -1,7 +1,7 @@
 //! What stands around the rows of a picture: the words above them, and the axes.
 ghost use Rattle.std.specs.Prelude.{◌≡◌, ◌<◌, ◌≤◌};
 ghost use Rattle.bus_outer.specs.Texts.{Adds};
-ghost use Rattle.bus_shapes.specs.Scales.{IsScale};
+ghost use Rattle.bus_pen.specs.Scales.{IsScale};
 ghost use Rattle.bus_cycles.specs.CyclesTexts as definition;
 ghost use Rattle.bus_cycles.specs.inside.Bounds.{IsPage};
 
@@ -15,10 +15,8 @@ use crate::measures::{
 use crate::page::Page;
 use crate::survey::{MOST_ROWS, Survey};
 use bus_outer::{Sink, TextBuffer};
-use bus_shapes::measures::{LEFT_MARGIN, RIGHT_MARGIN};
-use bus_shapes::{
-    Axis, Class, Scale, Unit, begin_words, end_words, put_axis, put_parted, put_words,
-};
+use bus_pen::measures::{LEFT_MARGIN, RIGHT_MARGIN};
+use bus_pen::{Axis, Class, Scale, Unit, begin_words, end_words, put_axis, put_parted, put_words};
 
 /// Whether the rows reach so far down that axes stand below them too.
 fn is_long(page: &Page) -> bool

@@ -11,8 +11,8 @@ use crate::open::{put_cut_before, put_cut_behind};
 use crate::page::Page;
 use crate::survey::{MOST_ROWS, last_end_of};
 use bus_outer::{Sink, TextBuffer};
-use bus_shapes::measures::{LEFT_MARGIN, RIGHT_MARGIN};
-use bus_shapes::{Class, begin_words, end_words};
+use bus_pen::measures::{LEFT_MARGIN, RIGHT_MARGIN};
+use bus_pen::{Class, begin_words, end_words};
 
 /// The moment at which a row begins, which may lie before the settled start.
 fn put_begin<K: Sink>(text: &mut TextBuffer, sink: &mut K, origin_offset: u32, begin: u64)

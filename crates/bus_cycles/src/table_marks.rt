@@ -9,8 +9,8 @@ use crate::measures::{
 };
 use crate::page::Page;
 use bus_outer::{Sink, TextBuffer};
+use bus_pen::{Area, Class, begin_words, end_words, put_box};
 use bus_regime::TableVerdict;
-use bus_shapes::{Area, Class, begin_words, end_words, put_box};
 use bus_table::{Mode, Table};
 
 /// A line over all rows, at a distance from their beginning.

@@ -21,8 +21,8 @@ use Rattle.bus_regime.specs.Gaps.{Gap, gaps, gaps_from}
 use Rattle.bus_regime.specs.Gaps.{last_end as last_end_of}
 use Rattle.bus_explain.specs.Figures.{gap_bits, longest_bits}
 use Rattle.bus_explain.specs.Laws.{LoadIsOfLongestCycle, idle_in}
-use Rattle.bus_shapes.specs.declared.scale.Scale.{Scale}
-use Rattle.bus_shapes.specs.Scales.{IsScale, held, place}
+use Rattle.bus_pen.specs.declared.scale.Scale.{Scale}
+use Rattle.bus_pen.specs.Scales.{IsScale, held, place}
 use Rattle.bus_page.specs.Laws.{CyclesAreTheVerdicts, SlotsFillTheInterval, WaitsAreLatencies, WidthsAreOfTheScale, FollowOneAnother, TurnsFollowOneAnother, last_end, scaled, slot_bits}
 use Rattle.bus_page.specs.Slots.{slot_of}
 use Rattle.bus_page.specs.Turns.{Stretch, Turn, turns_from, turns_of}

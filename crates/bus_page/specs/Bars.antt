@@ -6,12 +6,12 @@ use Rattle.bus_say.specs.Times.{time_text}
 use Rattle.bus_reach.specs.declared.limit.Limit.{Limit}
 use Rattle.bus_reach.specs.declared.limit.Rule.{Rule}
 use Rattle.bus_reach.specs.declared.limit.Rule.TheVariants.{LeastGap, NextGap, OwnGap, Sync}
-use Rattle.bus_shapes.specs.declared.class.Class.{Class}
-use Rattle.bus_shapes.specs.declared.class.Class.TheVariants.{Answer, Counts, Note}
-use Rattle.bus_shapes.specs.declared.scale.Scale.{Scale}
-use Rattle.bus_shapes.specs.Scales.{place}
-use Rattle.bus_shapes.specs.declared.area.Area.{Area}
-use Rattle.bus_shapes.specs.Shapes.{words_text}
+use Rattle.bus_pen.specs.declared.class.Class.{Class}
+use Rattle.bus_pen.specs.declared.class.Class.TheVariants.{Answer, Counts, Note}
+use Rattle.bus_pen.specs.declared.scale.Scale.{Scale}
+use Rattle.bus_pen.specs.Scales.{place}
+use Rattle.bus_pen.specs.declared.area.Area.{Area}
+use Rattle.bus_pen.specs.Shapes.{words_text}
 use Rattle.bus_page.specs.Messages.{area_of}
 use Rattle.bus_page.specs.declared.measures.TheConstants.{BAR_HEIGHT as bar_height, BAR_LINE as bar_line, BESIDE_BAR as beside_bar}
 use Rattle.bus_page.specs.declared.measures.TheConstants.{ROW_HEIGHT as row_height, ROWS_TOP as rows_top, RULES_LEFT as rules_left}

@@ -2,12 +2,12 @@
 use Rattle.std.specs.Prelude.{ℕ, ◌+◌, ◌-◌, List, ◌++◌, codes, decimal}
 use Rattle.std.specs.List.{flat_map}
 use Rattle.bus_say.specs.Times.{time_text}
-use Rattle.bus_shapes.specs.declared.area.Area.{Area}
-use Rattle.bus_shapes.specs.declared.class.Class.{Class}
-use Rattle.bus_shapes.specs.declared.class.Class.TheVariants.{Detail, GapWords, IntervalWords}
-use Rattle.bus_shapes.specs.declared.scale.Scale.{Scale}
-use Rattle.bus_shapes.specs.Scales.{place}
-use Rattle.bus_shapes.specs.Shapes.{words_text}
+use Rattle.bus_pen.specs.declared.area.Area.{Area}
+use Rattle.bus_pen.specs.declared.class.Class.{Class}
+use Rattle.bus_pen.specs.declared.class.Class.TheVariants.{Detail, GapWords, IntervalWords}
+use Rattle.bus_pen.specs.declared.scale.Scale.{Scale}
+use Rattle.bus_pen.specs.Scales.{place}
+use Rattle.bus_pen.specs.Shapes.{words_text}
 use Rattle.bus_page.specs.declared.measures.TheConstants.{PLOT_LEFT as plot_left, PLOT_WIDTH as plot_width, BOX_HEIGHT as box_height}
 use Rattle.bus_page.specs.declared.measures.TheConstants.{SHORT_TOP as short_top, LONG_TOP as long_top}
 use Rattle.bus_page.specs.Messages.{axes_text, gap_text, lane_text, stretch_text}

@@ -4,7 +4,7 @@
 use Rattle.std.specs.Prelude.{ℕ, ◌/◌, ◌%◌, ◌==◌, List, [], ◌∷◌, ◌++◌, length, codes, if◌then◌else◌}
 use Rattle.std.specs.List.{flat_map}
 use Rattle.bus_text.specs.Digits.{hexadecimal}
-use Rattle.bus_shapes.specs.Sayings.{plainly_counted}
+use Rattle.bus_pen.specs.Numbers.{plainly_counted}
 use Rattle.bus_page.specs.Checksums.{checksum}
 use Rattle.bus_page.specs.Heads.{figure, section_text}
 

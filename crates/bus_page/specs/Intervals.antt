@@ -3,10 +3,10 @@
 use Rattle.std.specs.Prelude.{ℕ, ◌+◌, ◌-◌, List, ◌++◌, codes}
 use Rattle.std.specs.List.{flat_map}
 use Rattle.bus_say.specs.Times.{time_text}
-use Rattle.bus_shapes.specs.declared.class.Class.TheVariants.{Small}
-use Rattle.bus_shapes.specs.declared.scale.Scale.{Scale}
-use Rattle.bus_shapes.specs.declared.area.Area.{Area}
-use Rattle.bus_shapes.specs.Shapes.{words_text}
+use Rattle.bus_pen.specs.declared.class.Class.TheVariants.{Small}
+use Rattle.bus_pen.specs.declared.scale.Scale.{Scale}
+use Rattle.bus_pen.specs.declared.area.Area.{Area}
+use Rattle.bus_pen.specs.Shapes.{words_text}
 use Rattle.bus_page.specs.Messages.{area_of, axes_text, lane_text, message_text, terminal_name}
 use Rattle.bus_page.specs.declared.measures.TheConstants.{PLOT_LEFT as plot_left, PLOT_WIDTH as plot_width, SHORT_TOP as short_top}
 use Rattle.bus_page.specs.Paints.{Gap, Paint, Synchronizes, painted, picture_end, picture_front}

@@ -19,9 +19,9 @@ use Rattle.bus_reach.specs.Bearing.{bears, tolerance_of}
 use Rattle.bus_reach.specs.Latency.{latency}
 use Rattle.bus_reach.specs.Limits.{is_borne, limits_of}
 use Rattle.bus_regime.specs.Verdicts.{is_accepted, verdict_of}
-use Rattle.bus_shapes.specs.declared.measures.TheConstants.{PIXEL as pixel}
-use Rattle.bus_shapes.specs.declared.scale.Scale.{Scale}
-use Rattle.bus_shapes.specs.Scales.{IsScale}
+use Rattle.bus_pen.specs.declared.measures.TheConstants.{PIXEL as pixel}
+use Rattle.bus_pen.specs.declared.scale.Scale.{Scale}
+use Rattle.bus_pen.specs.Scales.{IsScale}
 use Rattle.bus_page.specs.Bars.{is_least}
 use Rattle.bus_page.specs.Checksums.{checksum}
 use Rattle.bus_page.specs.Feet.{shown_text}

@@ -1,14 +1,14 @@
 -- Messages and gaps as boxes of a picture, and what stands around these: the axes, and the name of a cycle.
 use Rattle.std.specs.Prelude.{ℕ, ◌+◌, ◌-◌, ◌/◌, nat_le, List, [], ◌++◌, codes, decimal, if◌then◌else◌}
 use Rattle.bus_say.specs.Times.{time_text}
-use Rattle.bus_shapes.specs.declared.area.Area.{Area}
-use Rattle.bus_shapes.specs.declared.axis.Axis.{Axis}
-use Rattle.bus_shapes.specs.declared.axis.Unit.TheVariants.{BitTimes, Microseconds}
-use Rattle.bus_shapes.specs.declared.class.Class.TheVariants.{Counts, Detail, Digits, Grid, Tick}
-use Rattle.bus_shapes.specs.declared.scale.Scale.{Scale}
-use Rattle.bus_shapes.specs.Axes.{axis_text}
-use Rattle.bus_shapes.specs.Scales.{extent, place}
-use Rattle.bus_shapes.specs.Shapes.{words_text}
+use Rattle.bus_pen.specs.declared.area.Area.{Area}
+use Rattle.bus_pen.specs.declared.axis.Axis.{Axis}
+use Rattle.bus_pen.specs.declared.axis.Unit.TheVariants.{BitTimes, Microseconds}
+use Rattle.bus_pen.specs.declared.class.Class.TheVariants.{Counts, Detail, Digits, Grid, Tick}
+use Rattle.bus_pen.specs.declared.scale.Scale.{Scale}
+use Rattle.bus_pen.specs.Axes.{axis_text}
+use Rattle.bus_pen.specs.Scales.{extent, place}
+use Rattle.bus_pen.specs.Shapes.{words_text}
 use Rattle.bus_page.specs.declared.measures.TheConstants.{WORDS_RIGHT as words_right, BOX_HEIGHT as box_height, BOX_LINE as box_line}
 use Rattle.bus_page.specs.declared.measures.TheConstants.{GAP_BELOW as gap_below, GAP_HEIGHT as gap_height, WIDE_BOX as wide_box}
 use Rattle.bus_page.specs.declared.measures.TheConstants.{NARROW_BOX as narrow_box}

@@ -1,6 +1,6 @@
 -- What the boxes of the pictures of a page stand for, and the text of each: a line. A unit is a tenth of a pixel.
 use Rattle.std.specs.Prelude.{ℕ, List, ◌++◌, codes, decimal}
-use Rattle.bus_shapes.specs.declared.area.Area.{Area}
+use Rattle.bus_pen.specs.declared.area.Area.{Area}
 pub use Rattle.bus_page.specs.declared.paint.Paint.{Paint}
 pub use Rattle.bus_page.specs.declared.paint.Paint.TheVariants.{Sent, Gap, Synchronizes, Interval, Spare, Bears, Limits, Wait, Tolerance}
 pub use Rattle.bus_page.specs.declared.paint.Paint.TheVariants.{Need}

@@ -12,11 +12,11 @@ use Rattle.bus_margins.specs.Margins as aperiodic_margins
 use Rattle.bus_margins_periodic.specs.declared.room.Room.{Room as PeriodicRoom}
 use Rattle.bus_margins_periodic.specs.declared.room.Rooms.{Rooms as PeriodicRooms}
 use Rattle.bus_margins_periodic.specs.Margins as periodic_margins
-use Rattle.bus_shapes.specs.declared.area.Area.{Area}
-use Rattle.bus_shapes.specs.declared.class.Class.TheVariants.{Counts, Note}
-use Rattle.bus_shapes.specs.declared.scale.Scale.{Scale}
-use Rattle.bus_shapes.specs.Scales.{place}
-use Rattle.bus_shapes.specs.Shapes.{words_text}
+use Rattle.bus_pen.specs.declared.area.Area.{Area}
+use Rattle.bus_pen.specs.declared.class.Class.TheVariants.{Counts, Note}
+use Rattle.bus_pen.specs.declared.scale.Scale.{Scale}
+use Rattle.bus_pen.specs.Scales.{place}
+use Rattle.bus_pen.specs.Shapes.{words_text}
 use Rattle.bus_page.specs.Bars.{paint_of, words_class}
 use Rattle.bus_page.specs.Heads.{section_text}
 use Rattle.bus_page.specs.Messages.{area_of}

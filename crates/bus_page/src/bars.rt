@@ -1,7 +1,7 @@
 //! Which rule limits the tolerance of a table: a bar for each of its limits.
 ghost use Rattle.std.specs.Prelude.{◌≡◌, ◌<◌, ◌≤◌, ◌^◌, length};
 ghost use Rattle.bus_outer.specs.Texts.{Adds};
-ghost use Rattle.bus_shapes.specs.Scales.{IsScale};
+ghost use Rattle.bus_pen.specs.Scales.{IsScale};
 ghost use Rattle.bus_page.specs.Bars as definition;
 
 use crate::measures::{
@@ -10,9 +10,9 @@ use crate::measures::{
 use crate::message::area_of;
 use crate::paint::{Paint, begin_picture, end_picture, put_plain};
 use bus_outer::{Sink, TextBuffer};
+use bus_pen::{Area, Class, Scale, begin_words, end_words};
 use bus_reach::{Limit, Rule};
 use bus_say::put_time;
-use bus_shapes::{Area, Class, Scale, begin_words, end_words};
 
 /// Puts words and the number of a terminal.
 fn put_named<K: Sink>(text: &mut TextBuffer, sink: &mut K, name: &[u8], terminal: u8)

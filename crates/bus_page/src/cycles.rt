@@ -2,7 +2,7 @@
 ghost use Rattle.std.specs.Prelude.{◌≡◌, ◌<◌, ◌≤◌, ◌^◌};
 ghost use Rattle.std.specs.List.{flat_map};
 ghost use Rattle.bus_outer.specs.Texts.{Adds};
-ghost use Rattle.bus_shapes.specs.Scales.{IsScale};
+ghost use Rattle.bus_pen.specs.Scales.{IsScale};
 ghost use Rattle.bus_page.specs.Cycles as definition;
 ghost use Rattle.bus_page.specs.inside.Bounds.{AreTimes};
 
@@ -11,8 +11,8 @@ use crate::message::{put_axes, put_gap, put_lane, put_stretch};
 use crate::paint::{Paint, begin_painted, begin_picture, end_painted, end_picture, put_plain};
 use crate::turn::Turn;
 use bus_outer::{Sink, TextBuffer};
+use bus_pen::{Area, Class, Scale, begin_words, end_words};
 use bus_say::put_time;
-use bus_shapes::{Area, Class, Scale, begin_words, end_words};
 
 /// The times of a table that its cycles are drawn by, in bit times.
 #[derive(Clone, Copy)]

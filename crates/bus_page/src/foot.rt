@@ -2,7 +2,7 @@
 ghost use Rattle.std.specs.Prelude.{◌≡◌, ◌<◌, codes};
 ghost use Rattle.bus_outer.specs.Texts.{Adds};
 ghost use Rattle.bus_outer.specs.Sinks.{WritesText};
-ghost use Rattle.bus_shapes.specs.Sayings.{plainly_counted};
+ghost use Rattle.bus_pen.specs.Numbers.{plainly_counted};
 ghost use Rattle.bus_page.specs.Feet as definition;
 
 use crate::checksum::checksum;

@@ -2,7 +2,7 @@
 ghost use Rattle.std.specs.Prelude.{◌≡◌, ◌<◌, ◌≤◌, ◌^◌, ◌+◌, All};
 ghost use Rattle.std.specs.List.{flat_map};
 ghost use Rattle.bus_outer.specs.Texts.{Adds};
-ghost use Rattle.bus_shapes.specs.Scales.{IsScale};
+ghost use Rattle.bus_pen.specs.Scales.{IsScale};
 ghost use Rattle.bus_page.specs.Intervals as definition;
 
 use crate::measures::{PLOT_LEFT, PLOT_WIDTH, SHORT_TOP};
@@ -10,8 +10,8 @@ use crate::message::{area_of, put_axes, put_lane, put_message, put_terminal};
 use crate::paint::{Paint, begin_painted, begin_picture, end_painted, end_picture};
 use crate::slot::{Slot, Synced};
 use bus_outer::{Sink, TextBuffer};
+use bus_pen::{Area, Class, Scale, put_words};
 use bus_say::put_time;
-use bus_shapes::{Area, Class, Scale, put_words};
 
 /// Puts whom a gap synchronizes.
 fn put_synced<K: Sink>(text: &mut TextBuffer, sink: &mut K, synced: Synced, number: u8)

@@ -1,7 +1,7 @@
 //! Messages and gaps as boxes of a picture, and what stands around these: the axes, and the name of a cycle.
 ghost use Rattle.std.specs.Prelude.{◌≡◌, ◌<◌, ◌^◌};
 ghost use Rattle.bus_outer.specs.Texts.{Adds};
-ghost use Rattle.bus_shapes.specs.Scales.{IsScale};
+ghost use Rattle.bus_pen.specs.Scales.{IsScale};
 ghost use Rattle.bus_page.specs.Messages as definition;
 
 use crate::measures::{
@@ -10,9 +10,9 @@ use crate::measures::{
 use crate::paint::{Paint, begin_painted, end_painted, put_plain};
 use crate::turn::Stretch;
 use bus_outer::{Sink, TextBuffer};
+use bus_pen::measures::PIXEL;
+use bus_pen::{Area, Axis, Class, Scale, Unit, begin_words, end_words, put_axis, put_words};
 use bus_say::put_time;
-use bus_shapes::measures::PIXEL;
-use bus_shapes::{Area, Axis, Class, Scale, Unit, begin_words, end_words, put_axis, put_words};
 
 /// The box of what lies between two moments.
 pub(crate) fn area_of(scale: &Scale, from: u64, to: u64, top: u64, height: u64) -> Area

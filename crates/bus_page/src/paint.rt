@@ -4,7 +4,7 @@ ghost use Rattle.bus_outer.specs.Texts.{Adds};
 ghost use Rattle.bus_page.specs.Paints as definition;
 
 use bus_outer::{Sink, TextBuffer};
-use bus_shapes::Area;
+use bus_pen::Area;
 
 /// What a box of a picture stands for, which says how it looks.
 #[derive(Clone, Copy, Debug, PartialEq, Eq)]

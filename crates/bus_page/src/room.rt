@@ -1,7 +1,7 @@
 //! How much room a table leaves by each rule of the margins within bounds: a bar for each.
 ghost use Rattle.std.specs.Prelude.{◌≡◌, ◌<◌, ◌^◌, pos, ◌-ℤ◌};
 ghost use Rattle.bus_outer.specs.Texts.{Adds};
-ghost use Rattle.bus_shapes.specs.Scales.{IsScale};
+ghost use Rattle.bus_pen.specs.Scales.{IsScale};
 ghost use Rattle.bus_page.specs.Rooms as definition;
 
 use crate::bars::{paint_of, words_class};
@@ -11,7 +11,7 @@ use crate::measures::{
 use crate::message::area_of;
 use crate::paint::{Paint, begin_painted, end_painted, put_plain};
 use bus_outer::{Sink, TextBuffer};
-use bus_shapes::{Area, Class, Scale, begin_words, end_words, put_words};
+use bus_pen::{Area, Class, Scale, begin_words, end_words, put_words};
 
 /// What a rule needs and what there is, in nanoseconds.
 #[derive(Clone, Copy, Debug)]

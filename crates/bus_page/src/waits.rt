@@ -1,7 +1,7 @@
 //! How long data wait at most for each terminal: a bar for its turn, and one for its longest message behind it.
 ghost use Rattle.std.specs.Prelude.{◌≡◌, ◌<◌, ◌≤◌, ◌^◌, length};
 ghost use Rattle.bus_outer.specs.Texts.{Adds};
-ghost use Rattle.bus_shapes.specs.Scales.{IsScale};
+ghost use Rattle.bus_pen.specs.Scales.{IsScale};
 ghost use Rattle.bus_page.specs.Waits as definition;
 
 use crate::bars::words_class;
@@ -11,8 +11,8 @@ use crate::measures::{
 use crate::message::{area_of, put_terminal};
 use crate::paint::{Paint, begin_picture, end_picture, put_plain};
 use bus_outer::{Sink, TextBuffer};
+use bus_pen::{Class, Scale, begin_words, end_words};
 use bus_say::put_time;
-use bus_shapes::{Class, Scale, begin_words, end_words};
 use bus_table::{Sender, longest};
 
 /// How a message looks, which is the longest of all, or isn't.

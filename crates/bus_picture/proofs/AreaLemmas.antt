@@ -3,7 +3,7 @@ use Rattle.std.proofs.Common.{◌≡◌, ℕ, ◌+◌, ◌*◌, ◌-◌, ◌≤�
 use Rattle.std.specs.Prelude.{◌⊎◌}
 use Rattle.std.proofs.lemmas.Bool.{cases_lt}
 use Rattle.bus_dump.specs.declared.lane.Lane.{Lane}
-use Rattle.bus_shapes.specs.declared.scale.Scale.{Scale}
+use Rattle.bus_pen.specs.declared.scale.Scale.{Scale}
 use Rattle.bus_strings.specs.Members.{In}
 use Rattle.bus_picture.specs.Boxes.{Cluster, is_thin, cluster_height, share_height}
 use Rattle.bus_picture.specs.Laws.{BoxesLieInRows, BreachesHideNoBox, IntervalWordsHideNoBox}

@@ -16,7 +16,7 @@ use Rattle.bus_medium.specs.BusyLaws.{IsBusy}
 use Rattle.bus_medium.proofs.BusyLaws.{entry_is_busy}
 use Rattle.bus_medium.proofs.Seats.{same_some}
 use Rattle.bus_shapes.specs.declared.told.Told.{Told}
-use Rattle.bus_shapes.specs.declared.scale.Scale.{Scale}
+use Rattle.bus_pen.specs.declared.scale.Scale.{Scale}
 use Rattle.bus_picture.specs.FaultLaws.{FaultsAreMarked, FaultsHaveLanes, IsFoundIn, NoneIsMarked}
 use Rattle.bus_picture.specs.Faults.{Fault, fault_of, faults, faults_text, is_marked}
 use Rattle.bus_picture.specs.Lanes.{drawn_lanes, has_some, is_in, is_named, lanes_with_some, most_empty}

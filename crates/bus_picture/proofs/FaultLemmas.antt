@@ -6,7 +6,7 @@ use Rattle.std.specs.Option.{option_and_then, option_to_list}
 use Rattle.std.proofs.lemmas.Grind.{flat_map-append}
 use Rattle.bus_strings.specs.Messages.{Entry}
 use Rattle.bus_findings.specs.declared.judgement.Judgement.{Judgement}
-use Rattle.bus_shapes.specs.declared.scale.Scale.{Scale}
+use Rattle.bus_pen.specs.declared.scale.Scale.{Scale}
 use Rattle.bus_picture.specs.Faults.{Fault, fault_of, faults, is_marked}
 use Rattle.bus_picture.specs.inside.Marking.{marked_at}
 

@@ -25,7 +25,7 @@ use Rattle.bus_shapes.specs.Sending.{sent_of, sents, sents_from}
 use Rattle.bus_shapes.specs.SendingLaws.{IsToldOf}
 use Rattle.bus_shapes.specs.declared.sent.Sent.{Sent}
 use Rattle.bus_picture.specs.GapLaws.{IntervalsAreAll, IntervalsAreTrue, LastIntervalsAreTrue, SyncGapsAreTrue}
-use Rattle.bus_shapes.specs.declared.scale.Scale.{Scale}
+use Rattle.bus_pen.specs.declared.scale.Scale.{Scale}
 use Rattle.bus_picture.specs.Intervals.{last_start, next_start}
 use Rattle.bus_picture.specs.Timers.{is_behind_gap}
 use Rattle.bus_picture.proofs.GapLemmas.{rise_taken, taken}

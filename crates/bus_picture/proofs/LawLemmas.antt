@@ -10,14 +10,14 @@ use Rattle.bus_strings.proofs.MemberLaws.{from_filter, in_append_left, in_append
 use Rattle.bus_strings.specs.Members.{In}
 use Rattle.bus_strings.specs.Messages.{Entry}
 use Rattle.bus_strings.specs.Transmissions.{IsByMoment, garbled}
-use Rattle.bus_shapes.specs.Classes.{is_hatched}
-use Rattle.bus_shapes.specs.declared.scale.Scale.{Scale}
+use Rattle.bus_pen.specs.Classes.{is_hatched}
+use Rattle.bus_pen.specs.declared.scale.Scale.{Scale}
 use Rattle.bus_shapes.specs.declared.sent.Sent.{Sent}
 use Rattle.bus_shapes.specs.Laws.{SentsAreTold}
 use Rattle.bus_shapes.specs.Sending.{sents, sents_from}
 use Rattle.bus_shapes.specs.SendingLaws.{IsToldOf}
-use Rattle.bus_shapes.specs.declared.measures.TheConstants.{PIXEL as pixel}
-use Rattle.bus_shapes.specs.Scales.{place}
+use Rattle.bus_pen.specs.declared.measures.TheConstants.{PIXEL as pixel}
+use Rattle.bus_pen.specs.Scales.{place}
 use Rattle.bus_picture.specs.Boxes.{Box, Cluster, boxes, boxes_from, bucket, grown, is_close, is_narrow, is_thin, joins, members, one, cluster_of}
 use Rattle.bus_picture.specs.Rows.{Row, box_class, garbled_class, is_of, plain_class, shown, shows}
 use Rattle.bus_picture.specs.Strings.{meets}

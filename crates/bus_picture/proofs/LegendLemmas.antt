@@ -13,21 +13,20 @@ use Rattle.bus_table.specs.declared.mode.Mode.{Mode}
 use Rattle.bus_table.specs.declared.mode.Mode.TheVariants.{Aperiodic, Periodic}
 use Rattle.bus_trace.specs.Traces.{Recording}
 use Rattle.bus_dump.specs.declared.lane.Lane.{Lane}
-use Rattle.bus_shapes.specs.declared.area.Area.{Area}
-use Rattle.bus_shapes.specs.declared.class.Class.{Class}
-use Rattle.bus_shapes.specs.declared.class.Class.TheVariants.{Gap, Mark, Overlap, Unobserved}
-use Rattle.bus_shapes.specs.declared.scale.Scale.{Scale}
+use Rattle.bus_pen.specs.declared.area.Area.{Area}
+use Rattle.bus_pen.specs.declared.class.Class.{Class}
+use Rattle.bus_pen.specs.declared.class.Class.TheVariants.{Gap, Mark, Overlap, Unobserved}
+use Rattle.bus_pen.specs.declared.scale.Scale.{Scale}
 use Rattle.bus_shapes.specs.declared.sent.Sent.{Sent}
 use Rattle.bus_shapes.specs.Sending.{sents}
-use Rattle.bus_shapes.specs.Scales.{extent, place}
-use Rattle.bus_shapes.specs.Shapes.{box_text, titled_text}
+use Rattle.bus_pen.specs.Scales.{extent, place}
+use Rattle.bus_pen.specs.Shapes.{box_text, titled_text}
 use Rattle.bus_picture.specs.Gaps as gaps
 use Rattle.bus_picture.specs.Gaps.{is_first}
 use Rattle.bus_picture.specs.Intervals.{interval_to, last_start}
 use Rattle.bus_picture.specs.Kinds.{TimerMark, has_gap, has_gap_before, has_interval, has_interval_before, has_sync, has_tick, has_timed, is_gap}
 use Rattle.bus_picture.specs.Kinds.{is_interval, is_sync, kinds_of, lane_has, lanes_have, sender_has}
 use Rattle.bus_picture.specs.declared.kinds.TimerMark.TheVariants.{Gaps, Intervals, Offsets}
-use Rattle.bus_picture.specs.Legends.{gap_sample, garbled_sample, horizon_sample, interval_sample, message_sample, shares_sample, tick_sample, overlap_band_sample}
 use Rattle.bus_picture.specs.LegendLaws.{HasTimer, LegendListsWhatIsDrawn, WritesGap, WritesInterval, WritesSync, WritesTicks}
 use Rattle.bus_picture.specs.declared.measures.TheConstants.{GAP_BELOW as gap_below, GAP_ROOM as gap_room, PLOT_TOP as plot_top}
 use Rattle.bus_picture.specs.Offsets.{offset_moment, offsets_text, rounds_before, rounds_in, tick_area, tick_text}
@@ -202,16 +201,16 @@ pub legend_lists_what_is_drawn : LegendListsWhatIsDrawn
 legend_lists_what_is_drawn scale lanes table trace bottom top =
     let kinds = kinds_of scale lanes table trace in
     record {
-      messages = through (if_written kinds.messages (message_sample top) (some_text 60 _)) (through (plain_shown scale trace) (marked_boxes scale lanes trace false));
-      garbled = through (if_written kinds.garbled (garbled_sample top) (some_text 60 _)) (through (hurt_shown scale trace) (marked_boxes scale lanes trace true));
-      overlap_bands = through (if_written kinds.overlap_bands (overlap_band_sample top) (some_text 60 _)) (any_banded scale bottom (sents trace.list));
-      unobserved = through (if_written kinds.unobserved (horizon_sample top) (some_text 60 _)) (turned (if_written (goes_behind scale trace.horizon) (unseen scale bottom trace.horizon) (some_text 60 _)));
-      gaps = through (if_written kinds.gaps (gap_sample top) (some_text 60 _)) (gaps_written scale lanes table trace);
-      intervals = through (if_written kinds.intervals (interval_sample top) (some_text 60 _))
+      messages = through (if_written kinds.messages _ (some_text 60 _)) (through (plain_shown scale trace) (marked_boxes scale lanes trace false));
+      garbled = through (if_written kinds.garbled _ (some_text 60 _)) (through (hurt_shown scale trace) (marked_boxes scale lanes trace true));
+      overlap_bands = through (if_written kinds.overlap_bands _ (some_text 60 _)) (any_banded scale bottom (sents trace.list));
+      unobserved = through (if_written kinds.unobserved _ (some_text 60 _)) (turned (if_written (goes_behind scale trace.horizon) (unseen scale bottom trace.horizon) (some_text 60 _)));
+      gaps = through (if_written kinds.gaps _ (some_text 60 _)) (gaps_written scale lanes table trace);
+      intervals = through (if_written kinds.intervals _ (some_text 60 _))
           (timers_have scale lanes table trace Intervals (WritesInterval scale trace)
           (λ k lane sender. interval_written scale trace (timings_of table trace.horizon k lane.terminal sender.tg) sender));
-      offsets = through (if_written kinds.offsets (tick_sample top) (some_text 60 _))
+      offsets = through (if_written kinds.offsets _ (some_text 60 _))
           (timers_have scale lanes table trace Offsets (WritesTicks scale table trace)
           (λ k lane sender. ticks_written table.mode scale _ table.ti sender.at _));
-      thin = through (if_written kinds.thin (shares_sample top) (some_text 60 _)) (thin_boxes scale lanes trace);
+      thin = through (if_written kinds.thin _ (some_text 60 _)) (thin_boxes scale lanes trace);
     }

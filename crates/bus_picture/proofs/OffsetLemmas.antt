@@ -6,7 +6,7 @@ use Rattle.std.proofs.lemmas.List.FromFn.{map-range_with_len_more}
 use Rattle.std.proofs.Math.Nat.{le-div_iff_mul-le}
 use Rattle.std.proofs.lemmas.Bool.{cases_lt}
 use Rattle.bus_strings.specs.Members.{In}
-use Rattle.bus_shapes.specs.declared.scale.Scale.{Scale}
+use Rattle.bus_pen.specs.declared.scale.Scale.{Scale}
 use Rattle.bus_timers.specs.Timings.{IsSound}
 use Rattle.bus_table.specs.Timers.{due_for, due_of}
 use Rattle.bus_medium.specs.Timings.{timing_of}

@@ -9,11 +9,12 @@ use Rattle.bus_strings.specs.Messages.{Entry}
 use Rattle.bus_strings.specs.Marking.{greatest_end}
 use Rattle.bus_strings.specs.Transmissions.{IsByMoment, end_of}
 use Rattle.bus_dump.proofs.ClearLemmas.{before_it}
-use Rattle.bus_shapes.specs.declared.scale.Scale.{Scale}
+use Rattle.bus_pen.specs.declared.scale.Scale.{Scale}
 use Rattle.bus_shapes.specs.declared.sent.Sent.{Sent}
-use Rattle.bus_shapes.specs.Laws.{PlacesRise, SentsAreTold}
-use Rattle.bus_shapes.specs.declared.measures.TheConstants.{PIXEL as pixel}
-use Rattle.bus_shapes.specs.Scales.{IsScale, place}
+use Rattle.bus_pen.specs.Laws.{PlacesRise}
+use Rattle.bus_shapes.specs.Laws.{SentsAreTold}
+use Rattle.bus_pen.specs.declared.measures.TheConstants.{PIXEL as pixel}
+use Rattle.bus_pen.specs.Scales.{IsScale, place}
 use Rattle.bus_shapes.specs.Sending.{sent_of, sents, sents_from}
 use Rattle.bus_shapes.specs.SendingLaws.{IsToldOf}
 use Rattle.bus_picture.specs.Strings.{meets}

@@ -4,7 +4,7 @@ use Rattle.std.specs.Prelude.{fold}
 use Rattle.std.proofs.lemmas.List.{append_assoc}
 use Rattle.std.proofs.lemmas.List.Sums.{fold-append}
 use Rattle.bus_strings.specs.Messages.{Entry}
-use Rattle.bus_shapes.specs.declared.scale.Scale.{Scale}
+use Rattle.bus_pen.specs.declared.scale.Scale.{Scale}
 use Rattle.bus_picture.specs.Paces.{Pace, pace, pace_of, start_moments, starts, times, times_from}
 use Rattle.bus_picture.specs.inside.Pacing.{Pacing, pace_behind, paced, unpaced, widened, with_start}
 

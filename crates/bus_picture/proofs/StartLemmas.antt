@@ -10,7 +10,7 @@ use Rattle.bus_strings.proofs.ListLaws.{flat_map-push}
 use Rattle.bus_strings.proofs.OverlapLemmas.{ordered_before}
 use Rattle.bus_strings.specs.Messages.{Entry}
 use Rattle.bus_strings.specs.Transmissions.{IsByMoment}
-use Rattle.bus_shapes.specs.declared.scale.Scale.{Scale}
+use Rattle.bus_pen.specs.declared.scale.Scale.{Scale}
 use Rattle.bus_shapes.specs.declared.sent.Sent.{Sent}
 use Rattle.bus_shapes.specs.Sending.{sent_of, sents, sents_from}
 use Rattle.bus_picture.specs.Gaps.{Heard, heard_all, heard_more, heard_next, heard_of, is_first, settled}

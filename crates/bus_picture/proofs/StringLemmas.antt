@@ -4,7 +4,7 @@ use Rattle.std.specs.Prelude.{slice_get}
 use Rattle.std.specs.Option.{option_map_or}
 use Rattle.bus_strings.specs.Messages.{Entry, Wordstring}
 use Rattle.bus_strings.specs.Pulses.{pulse_length, pulse_start}
-use Rattle.bus_shapes.specs.declared.scale.Scale.{Scale}
+use Rattle.bus_pen.specs.declared.scale.Scale.{Scale}
 use Rattle.bus_shapes.specs.declared.sent.Sent.{Sent}
 use Rattle.bus_table.specs.Tables.{Table}
 use Rattle.bus_picture.specs.Strings.{pulse_text, string_text}

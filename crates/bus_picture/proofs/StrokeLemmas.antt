@@ -1,11 +1,11 @@
 -- The stroke of a box lies within its area.
 use Rattle.std.proofs.Common.{◌≡◌, ℕ, ◌+◌, ◌*◌, ◌≤◌, Bool, true, false, cond, List, [], ◌∷◌, fold, Option, Some, None, arith, refl, ap, ◌∙◌}
 use Rattle.std.proofs.lemmas.Bool.{le-ltb, ltb-false}
-use Rattle.bus_shapes.specs.declared.area.Area.{Area}
-use Rattle.bus_shapes.specs.declared.scale.Scale.{Scale}
+use Rattle.bus_pen.specs.declared.area.Area.{Area}
+use Rattle.bus_pen.specs.declared.scale.Scale.{Scale}
 use Rattle.bus_shapes.specs.declared.sent.Sent.{Sent}
-use Rattle.bus_shapes.specs.Scales.{IsScale, extent, place}
-use Rattle.bus_shapes.proofs.ScaleLemmas.{place_rises}
+use Rattle.bus_pen.specs.Scales.{IsScale, extent, place}
+use Rattle.bus_pen.proofs.ScaleLemmas.{place_rises}
 use Rattle.bus_picture.specs.Boxes.{Box, Cluster, grown, is_narrow, is_thin, one, cluster_height, cluster_of, share_height}
 use Rattle.bus_picture.specs.Laws.{StrokesLieWithin, with_stroke}
 use Rattle.bus_picture.specs.Rows.{Row, box_area, inset, overhang, plain_overhang}

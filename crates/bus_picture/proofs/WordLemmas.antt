@@ -1,7 +1,7 @@
 -- Data words, one behind the other.
 use Rattle.std.proofs.Common.{◌≡◌, ℕ, suc, ◌+◌, ◌*◌, ◌<◌, Bool, List, [], ◌∷◌, ◌++◌, length, take, get_or, append-nil, arith, sym, ap, ◌∙◌}
 use Rattle.std.proofs.lemmas.List.{append_assoc, length-take, take_more}
-use Rattle.bus_shapes.specs.declared.scale.Scale.{Scale}
+use Rattle.bus_pen.specs.declared.scale.Scale.{Scale}
 use Rattle.bus_picture.specs.Strings.{data_at, data_from}
 
 behind : (scale : Scale) (top : ℕ) (garbled : Bool) (t : ℕ) (xs : List ℕ) (y : ℕ)

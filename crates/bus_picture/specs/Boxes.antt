@@ -6,10 +6,10 @@ use Rattle.std.specs.Prelude.{if◌then◌else◌}
 use Rattle.std.specs.List.{count_by, range_with_len}
 use Rattle.bus_shapes.specs.declared.sent.Sent.{Sent}
 use Rattle.bus_shapes.specs.Sayings.{garbled_words, sent_words}
-use Rattle.bus_shapes.specs.declared.scale.Scale.{Scale}
-use Rattle.bus_shapes.specs.Scales.{extent, place}
+use Rattle.bus_pen.specs.declared.scale.Scale.{Scale}
+use Rattle.bus_pen.specs.Scales.{extent, place}
 pub use Rattle.bus_picture.specs.declared.cluster.Cluster.{Cluster}
-use Rattle.bus_shapes.specs.declared.measures.TheConstants.{PIXEL as pixel}
+use Rattle.bus_pen.specs.declared.measures.TheConstants.{PIXEL as pixel}
 use Rattle.bus_picture.specs.declared.measures.TheConstants.{BOX_HEIGHT as box_height, LEAST_HEIGHT as least_height, NARROW as narrow}
 
 -- ---- which transmissions share a box

@@ -8,13 +8,13 @@ use Rattle.bus_dump.specs.declared.lane.Lane.{Lane}
 use Rattle.bus_findings.specs.declared.judgement.Judgement.{Judgement}
 use Rattle.bus_findings.specs.Terminals.{is_faulty}
 use Rattle.bus_findings.specs.Texts.{fault_title, fault_words}
-use Rattle.bus_shapes.specs.declared.class.Class.TheVariants.{Breach, Note}
-use Rattle.bus_shapes.specs.declared.class.Class.TheVariants as classes
-use Rattle.bus_shapes.specs.declared.scale.Scale.{Scale}
+use Rattle.bus_pen.specs.declared.class.Class.TheVariants.{Breach, Note}
+use Rattle.bus_pen.specs.declared.class.Class.TheVariants as classes
+use Rattle.bus_pen.specs.declared.scale.Scale.{Scale}
 use Rattle.bus_shapes.specs.declared.told.Told.{Told}
 use Rattle.bus_shapes.specs.declared.told.Told.TheVariants.{Audit, OnCable, Findings}
-use Rattle.bus_shapes.specs.Scales.{place}
-use Rattle.bus_shapes.specs.Shapes.{box_text, titled_text, words_text}
+use Rattle.bus_pen.specs.Scales.{place}
+use Rattle.bus_pen.specs.Shapes.{box_text, titled_text, words_text}
 use Rattle.bus_picture.specs.Lanes.{each_lane, lane_top}
 use Rattle.bus_picture.specs.Marks.{above_text, breach_text, dashes_text, head_dash, lower_dash, upper_dash, words_middle}
 use Rattle.bus_picture.specs.declared.measures.TheConstants.{BREACH_WIDTH as breach_width, FAULT_BESIDE as fault_beside}

@@ -13,7 +13,7 @@ use Rattle.bus_medium.specs.Past.{past, own, last_place}
 use Rattle.bus_medium.specs.Timings.{timing_of}
 use Rattle.bus_shapes.specs.declared.sent.Sent.{Sent}
 use Rattle.bus_shapes.specs.Sending.{sents}
-use Rattle.bus_shapes.specs.declared.scale.Scale.{Scale}
+use Rattle.bus_pen.specs.declared.scale.Scale.{Scale}
 use Rattle.bus_picture.specs.Gaps.{Gap, is_first}
 use Rattle.bus_picture.specs.Intervals.{interval_to, last_start}
 use Rattle.bus_picture.specs.Timers.{LaneTimings, is_behind_gap, lane_gap, last_lane_gap, timings_of}

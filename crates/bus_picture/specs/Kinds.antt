@@ -11,7 +11,7 @@ use Rattle.bus_trace.specs.Traces.{Recording}
 use Rattle.bus_audit.specs.Breaches.{held}
 use Rattle.bus_dump.specs.declared.lane.Lane.{Lane}
 use Rattle.bus_shapes.specs.declared.counts.Counts.{Counts}
-use Rattle.bus_shapes.specs.declared.scale.Scale.{Scale}
+use Rattle.bus_pen.specs.declared.scale.Scale.{Scale}
 use Rattle.bus_shapes.specs.declared.sent.Sent.{Sent}
 use Rattle.bus_shapes.specs.Sending.{sents}
 use Rattle.bus_picture.specs.Boxes.{is_thin}

@@ -6,7 +6,7 @@ use Rattle.bus_table.specs.Tables.{Sender, Table}
 use Rattle.bus_trace.specs.Traces.{Recording}
 use Rattle.bus_audit.specs.Breaches.{held}
 use Rattle.bus_dump.specs.declared.lane.Lane.{Lane}
-use Rattle.bus_shapes.specs.declared.scale.Scale.{Scale}
+use Rattle.bus_pen.specs.declared.scale.Scale.{Scale}
 use Rattle.bus_shapes.specs.declared.sent.Sent.{Sent}
 use Rattle.bus_shapes.specs.Sending.{sents}
 use Rattle.bus_picture.specs.Boxes.{Box, boxes, is_thin, cluster_of}

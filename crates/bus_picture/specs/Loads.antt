@@ -8,12 +8,12 @@ use Rattle.bus_strings.specs.Marking.{greatest_end}
 use Rattle.bus_strings.specs.Messages.{Entry}
 use Rattle.bus_strings.specs.Pulses.{pulse_length, pulse_start}
 use Rattle.bus_dump.specs.declared.lane.Lane.{Lane}
-use Rattle.bus_shapes.specs.declared.class.Class.TheVariants.{Counts, Detail, Small}
-use Rattle.bus_shapes.specs.declared.scale.Scale.{Scale}
-use Rattle.bus_shapes.specs.declared.measures.TheConstants.{ANSWER_LINE as answer_line, RIGHT_MARGIN as right_margin}
-use Rattle.bus_shapes.specs.Numbers as numbers
+use Rattle.bus_pen.specs.declared.class.Class.TheVariants.{Counts, Detail, Small}
+use Rattle.bus_pen.specs.declared.scale.Scale.{Scale}
+use Rattle.bus_pen.specs.declared.measures.TheConstants.{ANSWER_LINE as answer_line, RIGHT_MARGIN as right_margin}
+use Rattle.bus_pen.specs.Numbers as numbers
 use Rattle.bus_shapes.specs.Sending.{is_of}
-use Rattle.bus_shapes.specs.Shapes.{words_text}
+use Rattle.bus_pen.specs.Shapes.{words_text}
 use Rattle.bus_picture.specs.Lanes.{each_lane, lane_top}
 use Rattle.bus_picture.specs.declared.measures.TheConstants.{BUS_LINE as bus_line, LOAD_LEFT as load_left, PLOT_TOP as plot_top}
 use Rattle.bus_picture.specs.declared.measures.TheConstants.{TAIL_LINE as tail_line, TERMINAL_LINE as terminal_line}

@@ -5,12 +5,12 @@ use Rattle.bus_audit.specs.Lines.{answer_words}
 use Rattle.bus_audit.specs.declared.answer.AuditAnswer.{AuditAnswer}
 use Rattle.bus_audit.specs.declared.answer.AuditAnswer.TheVariants.{Lawful, Breach}
 use Rattle.bus_dump.specs.declared.lane.Lane.{Lane}
-use Rattle.bus_shapes.specs.declared.area.Area.{Area}
-use Rattle.bus_shapes.specs.declared.class.Class.TheVariants.{BreachWords}
-use Rattle.bus_shapes.specs.declared.class.Class.TheVariants as classes
-use Rattle.bus_shapes.specs.declared.scale.Scale.{Scale}
-use Rattle.bus_shapes.specs.Scales.{place}
-use Rattle.bus_shapes.specs.Shapes.{box_text, words_text}
+use Rattle.bus_pen.specs.declared.area.Area.{Area}
+use Rattle.bus_pen.specs.declared.class.Class.TheVariants.{BreachWords}
+use Rattle.bus_pen.specs.declared.class.Class.TheVariants as classes
+use Rattle.bus_pen.specs.declared.scale.Scale.{Scale}
+use Rattle.bus_pen.specs.Scales.{place}
+use Rattle.bus_pen.specs.Shapes.{box_text, words_text}
 use Rattle.bus_picture.specs.Lanes.{each_lane, lane_top}
 use Rattle.bus_picture.specs.declared.measures.TheConstants.{BOX_BELOW as box_below, BOX_HEIGHT as box_height, BREACH_LINE as breach_line}
 use Rattle.bus_picture.specs.declared.measures.TheConstants.{BREACH_WIDTH as breach_width, HEAD_HEIGHT as head_height}

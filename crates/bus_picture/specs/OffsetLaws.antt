@@ -1,7 +1,7 @@
 -- What the ticks of offsets tell. The contract of `laws::offsets_are_marked` says that this law holds.
 use Rattle.std.specs.Prelude.{◌≡◌, ◌↔◌, ℕ, ◌+◌, ◌*◌, ◌<◌, ◌≤◌, IsTrue}
 use Rattle.bus_strings.specs.Members.{In}
-use Rattle.bus_shapes.specs.declared.scale.Scale.{Scale}
+use Rattle.bus_pen.specs.declared.scale.Scale.{Scale}
 use Rattle.bus_table.specs.Tables.{Sender, Table}
 use Rattle.bus_table.specs.Timers.{due_of}
 use Rattle.bus_table.specs.Valid.{is_valid}

@@ -3,9 +3,9 @@ use Rattle.std.specs.Prelude.{◌≡◌, ℕ, ◌+◌, ◌<◌, ◌≤◌, List,
 use Rattle.bus_strings.specs.Members.{In}
 use Rattle.bus_strings.specs.Messages.{Entry}
 use Rattle.bus_strings.specs.Transmissions.{IsByMoment, end_of}
-use Rattle.bus_shapes.specs.declared.scale.Scale.{Scale}
-use Rattle.bus_shapes.specs.declared.measures.TheConstants.{PIXEL as pixel}
-use Rattle.bus_shapes.specs.Scales.{IsScale, place}
+use Rattle.bus_pen.specs.declared.scale.Scale.{Scale}
+use Rattle.bus_pen.specs.declared.measures.TheConstants.{PIXEL as pixel}
+use Rattle.bus_pen.specs.Scales.{IsScale, place}
 use Rattle.bus_picture.specs.OverlapBands.{OverlapBand, overlap_bands}
 
 -- A transmission is sent at bit time t, its inner quiet included.

@@ -2,13 +2,13 @@
 use Rattle.std.specs.Prelude.{ℕ, ◌+◌, ◌-◌, max, min, Bool, ◌&&◌, nat_lt, List, [], ◌∷◌, filter, map, if◌then◌else◌}
 use Rattle.std.specs.List.{flat_map, list_any}
 use Rattle.bus_strings.specs.Messages.{Entry}
-use Rattle.bus_shapes.specs.declared.class.Class.TheVariants.{Overlap}
-use Rattle.bus_shapes.specs.declared.scale.Scale.{Scale}
+use Rattle.bus_pen.specs.declared.class.Class.TheVariants.{Overlap}
+use Rattle.bus_pen.specs.declared.scale.Scale.{Scale}
 use Rattle.bus_shapes.specs.declared.sent.Sent.{Sent}
-use Rattle.bus_shapes.specs.declared.measures.TheConstants.{PIXEL as pixel}
-use Rattle.bus_shapes.specs.Scales.{extent, place}
+use Rattle.bus_pen.specs.declared.measures.TheConstants.{PIXEL as pixel}
+use Rattle.bus_pen.specs.Scales.{extent, place}
 use Rattle.bus_shapes.specs.Sending.{sents}
-use Rattle.bus_shapes.specs.Shapes.{box_text}
+use Rattle.bus_pen.specs.Shapes.{box_text}
 use Rattle.bus_picture.specs.declared.measures.TheConstants.{PLOT_TOP as plot_top}
 use Rattle.bus_picture.specs.Strings.{meets}
 pub use Rattle.bus_picture.specs.declared.overlap_bands.OverlapBand.{OverlapBand}

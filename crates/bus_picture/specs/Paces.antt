@@ -3,9 +3,9 @@ use Rattle.std.specs.Prelude.{ℕ, ◌+◌, ◌-◌, max, min, Bool, ◌&&◌, �
 use Rattle.std.specs.Prelude.{filter, fold, map, Option, Some, None}
 use Rattle.std.specs.Option.{option_map_or}
 use Rattle.bus_strings.specs.Messages.{Entry}
-use Rattle.bus_shapes.specs.declared.class.Class.TheVariants.{Small}
-use Rattle.bus_shapes.specs.declared.scale.Scale.{Scale}
-use Rattle.bus_shapes.specs.Shapes.{words_text}
+use Rattle.bus_pen.specs.declared.class.Class.TheVariants.{Small}
+use Rattle.bus_pen.specs.declared.scale.Scale.{Scale}
+use Rattle.bus_pen.specs.Shapes.{words_text}
 use Rattle.bus_dump.specs.declared.lane.Lane.{Lane}
 use Rattle.bus_picture.specs.Lanes.{each_lane, lane_top}
 use Rattle.bus_picture.specs.declared.measures.TheConstants.{BUS_LINE as bus_line, PACE_LEFT as pace_left, PLOT_TOP as plot_top}

@@ -7,17 +7,17 @@ use Rattle.bus_text.specs.Digits.{hexadecimal}
 use Rattle.bus_strings.specs.Limits.{word_bits}
 use Rattle.bus_strings.specs.Messages.{Entry, Wordstring}
 use Rattle.bus_strings.specs.Pulses.{pulse_length, pulse_start}
-use Rattle.bus_shapes.specs.Classes.{digits_class}
-use Rattle.bus_shapes.specs.declared.class.Class.{Class}
-use Rattle.bus_shapes.specs.declared.class.Class.TheVariants.{Edge, Label, Noise, Overlap}
-use Rattle.bus_shapes.specs.declared.class.Class.TheVariants as classes
-use Rattle.bus_shapes.specs.declared.scale.Scale.{Scale}
+use Rattle.bus_pen.specs.Classes.{digits_class}
+use Rattle.bus_pen.specs.declared.class.Class.{Class}
+use Rattle.bus_pen.specs.declared.class.Class.TheVariants.{Edge, Label, Noise, Overlap}
+use Rattle.bus_pen.specs.declared.class.Class.TheVariants as classes
+use Rattle.bus_pen.specs.declared.scale.Scale.{Scale}
 use Rattle.bus_shapes.specs.declared.sent.Sent.{Sent}
 use Rattle.bus_table.specs.Tables.{Table}
-use Rattle.bus_shapes.specs.Sayings.{counted}
-use Rattle.bus_shapes.specs.Scales.{extent, place}
-use Rattle.bus_shapes.specs.declared.area.Area.{Area}
-use Rattle.bus_shapes.specs.Shapes.{box_text, titled_text, words_text}
+use Rattle.bus_pen.specs.Numbers.{counted}
+use Rattle.bus_pen.specs.Scales.{extent, place}
+use Rattle.bus_pen.specs.declared.area.Area.{Area}
+use Rattle.bus_pen.specs.Shapes.{box_text, titled_text, words_text}
 use Rattle.bus_picture.specs.declared.measures.TheConstants.{DIGITS_ROOM as digits_room, EDGE_WIDTH as edge_width}
 use Rattle.bus_picture.specs.declared.measures.TheConstants.{LABEL_ROOM as label_room, LONG_ROOM as long_room}
 use Rattle.bus_picture.specs.declared.measures.TheConstants.{NAME_ROOM as name_room, STRING_BELOW as string_below}

@@ -12,17 +12,17 @@ use Rattle.bus_strings.specs.Messages.{Entry}
 use Rattle.bus_audit.specs.Breaches.{held}
 use Rattle.bus_dump.specs.declared.lane.Lane.{Lane}
 use Rattle.bus_dump.specs.Lanes.{lanes}
-use Rattle.bus_shapes.specs.declared.axis.Axis.{Axis}
-use Rattle.bus_shapes.specs.declared.axis.Unit.TheVariants.{BitTimes, Microseconds}
-use Rattle.bus_shapes.specs.Axes.{axis_text}
-use Rattle.bus_shapes.specs.declared.class.Class.TheVariants.{Band, Detail, Grid, Small}
-use Rattle.bus_shapes.specs.declared.class.Class.TheVariants.{Tick, Unobserved}
-use Rattle.bus_shapes.specs.declared.class.Class.TheVariants as classes
+use Rattle.bus_pen.specs.declared.axis.Axis.{Axis}
+use Rattle.bus_pen.specs.declared.axis.Unit.TheVariants.{BitTimes, Microseconds}
+use Rattle.bus_pen.specs.Axes.{axis_text}
+use Rattle.bus_pen.specs.declared.class.Class.TheVariants.{Band, Detail, Grid, Small}
+use Rattle.bus_pen.specs.declared.class.Class.TheVariants.{Tick, Unobserved}
+use Rattle.bus_pen.specs.declared.class.Class.TheVariants as classes
 use Rattle.bus_shapes.specs.Frames.{frame_text, tail_text}
 use Rattle.bus_shapes.specs.declared.told.Told.{Told}
-use Rattle.bus_shapes.specs.declared.scale.Scale.{Scale}
-use Rattle.bus_shapes.specs.Scales.{extent, place}
-use Rattle.bus_shapes.specs.Shapes.{box_text, titled_text, words_text}
+use Rattle.bus_pen.specs.declared.scale.Scale.{Scale}
+use Rattle.bus_pen.specs.Scales.{extent, place}
+use Rattle.bus_pen.specs.Shapes.{box_text, titled_text, words_text}
 use Rattle.bus_trace.specs.Windows.{Window}
 pub use Rattle.bus_picture.specs.Lanes.{drawn_lanes, each_lane, lane_top}
 pub use Rattle.bus_picture.specs.Kinds.{Kinds, counts_of, goes_behind, has_thin, is_shown, is_shown_thin, kinds_of}

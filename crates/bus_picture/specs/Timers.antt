@@ -3,14 +3,14 @@ use Rattle.std.specs.Prelude.{ℕ, ◌+◌, ◌-◌, ◌*◌, Bool, ◌&&◌, �
 use Rattle.std.specs.Prelude.{[], ◌++◌, codes, decimal, take, Option, Some, None, if◌then◌else◌}
 use Rattle.std.specs.List.{flat_map}
 use Rattle.bus_strings.specs.Messages.{Entry}
-use Rattle.bus_shapes.specs.declared.class.Class.TheVariants.{Gap, GapWords, Interval, IntervalWords}
-use Rattle.bus_shapes.specs.declared.area.Area.{Area}
-use Rattle.bus_shapes.specs.declared.scale.Scale.{Scale}
+use Rattle.bus_pen.specs.declared.class.Class.TheVariants.{Gap, GapWords, Interval, IntervalWords}
+use Rattle.bus_pen.specs.declared.area.Area.{Area}
+use Rattle.bus_pen.specs.declared.scale.Scale.{Scale}
 use Rattle.bus_shapes.specs.declared.sent.Sent.{Sent}
-use Rattle.bus_shapes.specs.declared.measures.TheConstants.{PIXEL as pixel}
-use Rattle.bus_shapes.specs.Scales.{extent, place}
+use Rattle.bus_pen.specs.declared.measures.TheConstants.{PIXEL as pixel}
+use Rattle.bus_pen.specs.Scales.{extent, place}
 use Rattle.bus_shapes.specs.Sending.{sents}
-use Rattle.bus_shapes.specs.Shapes.{box_text, words_text}
+use Rattle.bus_pen.specs.Shapes.{box_text, words_text}
 use Rattle.bus_table.specs.Tables.{Table}
 use Rattle.bus_table.specs.Timers.{quiet_of}
 use Rattle.bus_picture.specs.Gaps.{gap_before, gap_behind, is_first}

@@ -1,7 +1,7 @@
 //! The boxes of a row.
 ghost use Rattle.std.specs.Prelude.{◌≡◌, ◌<◌, ◌≤◌, ◌^◌};
 ghost use Rattle.bus_outer.specs.Texts.{Adds};
-ghost use Rattle.bus_shapes.specs.Scales.{IsScale};
+ghost use Rattle.bus_pen.specs.Scales.{IsScale};
 ghost use Rattle.bus_shapes.specs.Sending.{sents as sents_of};
 ghost use Rattle.bus_picture.specs.Rows as definition;
 ghost use Rattle.bus_picture.specs.inside.Working as working;
@@ -15,7 +15,8 @@ use crate::row::Row;
 use crate::strings::put_strings;
 use crate::strokes::{inset, overhang};
 use bus_outer::{Sink, TextBuffer};
-use bus_shapes::{Area, Class, Scale, Sent, begin_titled, end_titled};
+use bus_pen::{Area, Class, Scale, begin_titled, end_titled};
+use bus_shapes::Sent;
 
 /// Whether a transmission is of the row, is garbled exactly where that is, and meets the moments of the scale.
 fn shows(scale: &Scale, row: &Row, sent: &Sent) -> bool

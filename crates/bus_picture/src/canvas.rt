@@ -1,7 +1,7 @@
 //! What the rows of a time line are drawn from.
 
 use crate::receivers::Receivers;
-use bus_shapes::Scale;
+use bus_pen::Scale;
 use bus_strings::Transmission;
 
 /// What is the same for all rows of a time line.

@@ -8,7 +8,8 @@ use crate::places::meets;
 use arrayvec::ArrayVec;
 use bus_audit::AuditAnswer;
 use bus_dump::{Lane, MOST_LANES};
-use bus_shapes::{Scale, Told};
+use bus_pen::Scale;
+use bus_shapes::Told;
 use bus_strings::Transmission;
 
 /// Whether a transmission is of the terminal of a lane and meets the moments of the scale.

@@ -1,15 +1,16 @@
 //! What is drawn of a box of a row: of one transmission, or of several neighbours of less than a pixel.
 ghost use Rattle.std.specs.Prelude.{◌≡◌, ◌<◌, ◌≤◌, ◌^◌};
 ghost use Rattle.bus_outer.specs.Texts.{Adds};
-ghost use Rattle.bus_shapes.specs.Scales.{IsScale};
+ghost use Rattle.bus_pen.specs.Scales.{IsScale};
 ghost use Rattle.bus_picture.specs.Boxes as definition;
 ghost use Rattle.bus_picture.specs.Boxes.{grown, one};
 ghost use Rattle.bus_picture.specs.inside.Working.{IsCluster};
 
 use crate::measures::{BOX_HEIGHT, LEAST_HEIGHT, NARROW};
 use bus_outer::{Sink, TextBuffer};
-use bus_shapes::measures::PIXEL;
-use bus_shapes::{Scale, Sent, put_garbled, put_sent};
+use bus_pen::Scale;
+use bus_pen::measures::PIXEL;
+use bus_shapes::{Sent, put_garbled, put_sent};
 
 /// The transmissions that share a box. All moments are bit times from the settled start.
 #[derive(Clone, Copy, Debug, PartialEq, Eq)]

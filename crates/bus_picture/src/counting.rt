@@ -1,12 +1,13 @@
 //! What a time line counts.
 ghost use Rattle.std.specs.Prelude.{◌≡◌};
 ghost use Rattle.bus_strings.specs.Transmissions.{IsByMoment};
-ghost use Rattle.bus_shapes.specs.Scales.{IsScale};
+ghost use Rattle.bus_pen.specs.Scales.{IsScale};
 ghost use Rattle.bus_picture.specs.Kinds as definition;
 
 use crate::cluster::is_thin;
 use crate::places::meets;
-use bus_shapes::{Counts, Scale, Sent, Sents};
+use bus_pen::Scale;
+use bus_shapes::{Counts, Sent, Sents};
 use bus_strings::Transmission;
 use bus_strings::laws::neighbours_tell;
 use bus_trace::Trace;

@@ -1,7 +1,7 @@
 //! Whether the line of a gap or of a transmit interval is drawn.
 ghost use Rattle.std.specs.Prelude.{◌≡◌, ◌≤◌, ◌^◌};
 ghost use Rattle.bus_strings.specs.Transmissions.{IsByMoment};
-ghost use Rattle.bus_shapes.specs.Scales.{IsScale};
+ghost use Rattle.bus_pen.specs.Scales.{IsScale};
 ghost use Rattle.bus_picture.specs.Intervals as intervals;
 ghost use Rattle.bus_picture.specs.Kinds as definition;
 ghost use Rattle.bus_picture.specs.inside.Starting as working;
@@ -11,7 +11,8 @@ use crate::intervals::interval_to;
 use crate::lane_timings::LaneTimings;
 use crate::lines::is_drawn;
 use crate::timers::is_behind_gap;
-use bus_shapes::{Scale, Sent, Sents};
+use bus_pen::Scale;
+use bus_shapes::{Sent, Sents};
 use bus_strings::Transmission;
 use bus_strings::laws::neighbours_tell;
 use bus_table::Table;

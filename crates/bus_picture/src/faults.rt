@@ -3,9 +3,9 @@ ghost use Rattle.std.specs.Prelude.{◌≡◌, ◌<◌, ◌≤◌, ◌^◌, [], 
 ghost use Rattle.std.specs.List.{flat_map};
 ghost use Rattle.std.specs.Option.{option_map_or, option_to_list};
 ghost use Rattle.bus_outer.specs.Texts.{Adds};
-ghost use Rattle.bus_shapes.specs.declared.class.Class.TheVariants as classes;
-ghost use Rattle.bus_shapes.specs.Scales.{IsScale};
-ghost use Rattle.bus_shapes.specs.Shapes.{titled_text};
+ghost use Rattle.bus_pen.specs.declared.class.Class.TheVariants as classes;
+ghost use Rattle.bus_pen.specs.Scales.{IsScale};
+ghost use Rattle.bus_pen.specs.Shapes.{titled_text};
 ghost use Rattle.bus_picture.specs.Faults as definition;
 ghost use Rattle.bus_picture.specs.Lanes.{each_lane};
 ghost use Rattle.bus_picture.specs.inside.Marking.{marked_at};
@@ -21,7 +21,8 @@ use crate::timers::is_near;
 use bus_dump::Lane;
 use bus_findings::{Judgement, is_faulty, put_fault_title, put_fault_words};
 use bus_outer::{Sink, TextBuffer};
-use bus_shapes::{Area, Class, Scale, Told, begin_titled, begin_words, end_titled, end_words};
+use bus_pen::{Area, Class, Scale, begin_titled, begin_words, end_titled, end_words};
+use bus_shapes::Told;
 use bus_strings::Transmission;
 
 /// A dash with these words, which are shown under the pointer.

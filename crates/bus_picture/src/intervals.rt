@@ -1,7 +1,7 @@
 //! The lines of transmit intervals, and their words.
 ghost use Rattle.std.specs.Prelude.{◌≡◌, ◌<◌, ◌≤◌, ◌^◌};
 ghost use Rattle.bus_outer.specs.Texts.{Adds};
-ghost use Rattle.bus_shapes.specs.Scales.{IsScale};
+ghost use Rattle.bus_pen.specs.Scales.{IsScale};
 ghost use Rattle.bus_picture.specs.Intervals as intervals;
 ghost use Rattle.bus_picture.specs.Timers as definition;
 ghost use Rattle.bus_picture.specs.inside.Starting as working;
@@ -12,7 +12,7 @@ use crate::measures::{
     INTERVAL_BELOW, INTERVAL_LINE, INTERVAL_ROOM, LINE_HEIGHT, STROKE_BELOW, STROKE_HEIGHT,
 };
 use bus_outer::{Sink, TextBuffer};
-use bus_shapes::{Area, Class, Scale, begin_words, end_words, put_box};
+use bus_pen::{Area, Class, Scale, begin_words, end_words, put_box};
 
 /// Where the transmit interval from a start ends, given the next start.
 pub(crate) fn interval_to(ti: u32, moment: u64, next: Option<u64>) -> u64

@@ -1,6 +1,6 @@
 //! What kinds of marks a time line has.
 ghost use Rattle.std.specs.Prelude.{◌≡◌};
-ghost use Rattle.bus_shapes.specs.Scales.{IsScale};
+ghost use Rattle.bus_pen.specs.Scales.{IsScale};
 ghost use Rattle.bus_picture.specs.Kinds as definition;
 
 use crate::counting::has_thin;
@@ -8,7 +8,8 @@ use crate::drawn_lines::has_sync;
 use crate::overlap_bands::has_overlap_bands;
 use crate::timer_marks::{are_near, lanes_have};
 use bus_dump::Lane;
-use bus_shapes::{Counts, Scale};
+use bus_pen::Scale;
+use bus_shapes::Counts;
 use bus_table::Table;
 use bus_trace::Trace;
 

@@ -10,7 +10,7 @@ use crate::measures::{
 };
 use bus_dump::Lane;
 use bus_outer::{Sink, TextBuffer};
-use bus_shapes::{Area, Class, begin_words, end_words, put_box};
+use bus_pen::{Area, Class, begin_words, end_words, put_box};
 use bus_table::{Mode, Sender, Table, sender_of};
 
 /// The upper edge of lane `k`.

@@ -12,7 +12,8 @@ ghost use Rattle.bus_picture.specs.TakingLaws.{NamedReceive, ReceivesStrings};
 ghost use Rattle.bus_picture.specs.OverlapBandLaws.{BandsAreOverlaps, OverlapsHaveBands};
 
 use bus_dump::laws::lanes_are_terminals;
-use bus_shapes::laws::{places_keep_order, sents_are_told};
+use bus_pen::laws::places_keep_order;
+use bus_shapes::laws::sents_are_told;
 
 /// Each transmission that a row shows is in exactly one box of it.
 pub fn boxes_hold_rows()

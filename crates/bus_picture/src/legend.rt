@@ -1,215 +1,186 @@
-//! The legend.
+//! The legend. The definitions cite its notes.
 ghost use Rattle.std.specs.Prelude.{◌<◌};
 ghost use Rattle.bus_outer.specs.Texts.{Adds};
 ghost use Rattle.bus_picture.specs.Legends as definition;
 
-use crate::between::put_between;
 use crate::kinds::Kinds;
+use crate::measures::{LINE_HEIGHT, OFFSET_HEIGHT, OFFSET_WIDTH};
 use bus_outer::{Sink, TextBuffer};
-use bus_shapes::{Area, Class, put_box, put_words};
+use bus_pen::{Class, Note, Sample, put_note};
 
 /// How far below the first row of the legend the second lies.
 const LEGEND_ROW: u64 = 260;
 
-/// How far below the upper edge of a box of the legend its words stand.
+/// How far below the upper edge of a row of the legend its words stand.
 const LEGEND_WORDS: u64 = 120;
 
-/// The height of a sample of a box.
-pub(crate) const SAMPLE_HEIGHT: u64 = 180;
-
-/// How far below the upper edge of a sample the box in it begins.
-const INNER_BELOW: u64 = 30;
-
-/// The height of the box in a sample.
-const INNER_HEIGHT: u64 = 120;
-
-/// Where the sample of a message begins.
-const MESSAGE_LEFT: u64 = 1500;
-
-/// The width of the sample of a message.
-const MESSAGE_WIDTH: u64 = 700;
-
-/// Where the first wordstring in it begins.
-const FIRST_LEFT: u64 = 1540;
-
-/// Where the second wordstring in it begins.
-const SECOND_LEFT: u64 = 1900;
-
-/// The width of a wordstring in it.
-const STRING_WIDTH: u64 = 260;
-
-/// Where the words on messages begin.
-const MESSAGE_WORDS: u64 = 2280;
-
-/// Where the sample of a garbled message begins.
-const GARBLED_LEFT: u64 = 6400;
-
-/// The width of the sample of a garbled message.
-const GARBLED_WIDTH: u64 = 500;
-
-/// Where the wordstring in it begins.
-const NOISE_LEFT: u64 = 6440;
-
-/// The width of the wordstring in it.
-const NOISE_WIDTH: u64 = 420;
-
-/// Where the words on garbled messages begin.
-const GARBLED_WORDS: u64 = 6980;
-
-/// The width of the samples behind these.
-pub(crate) const COLUMN_WIDTH: u64 = 300;
-
-/// Where the sample of an overlap band begins.
-const OVERLAP_LEFT: u64 = 7700;
-
-/// Where the words on it begin.
-const OVERLAP_WORDS: u64 = 8080;
-
-/// A box of the legend.
-pub(crate) fn put_legend_box<K: Sink>(
-    text: &mut TextBuffer,
-    sink: &mut K,
-    class: Class,
-    left: u64,
-    top: u64,
-    width: u64,
-    height: u64,
-)
-    ensures { Adds K.held K.faults sink.old sink.new text.old text.new (definition.legend_box class left top width height) }
-{
-    let area = Area {
-        left,
-        top,
-        width,
-        height,
-    };
-    put_box(text, sink, class, area);
-}
-
-/// A sample of a box.
-pub(crate) fn put_sample<K: Sink>(
-    text: &mut TextBuffer,
-    sink: &mut K,
-    class: Class,
-    left: u64,
-    top: u64,
-    width: u64,
-)
-    ensures { Adds K.held K.faults sink.old sink.new text.old text.new (definition.sample_box class left top width) }
-{
-    put_legend_box(text, sink, class, left, top, width, SAMPLE_HEIGHT);
-}
-
-/// The box in a sample.
-fn put_inner<K: Sink>(
-    text: &mut TextBuffer,
-    sink: &mut K,
-    class: Class,
-    left: u64,
-    top: u64,
-    width: u64,
-)
-    requires { top < 200000 }
-    ensures { Adds K.held K.faults sink.old sink.new text.old text.new (definition.inner_box class left top width) }
-{
-    let below = top + INNER_BELOW;
-    put_legend_box(text, sink, class, left, below, width, INNER_HEIGHT);
-}
-
-/// The words of a sample.
-pub(crate) fn put_note<K: Sink>(
-    text: &mut TextBuffer,
-    sink: &mut K,
-    left: u64,
-    top: u64,
-    words: &[u8],
-)
-    requires { top < 200000 }
-    ensures { Adds K.held K.faults sink.old sink.new text.old text.new (definition.sample_words left top words.now) }
-{
-    put_words(text, sink, Class::Small, left, top + LEGEND_WORDS, words);
-}
-
 /// What a message is.
-fn put_message<K: Sink>(text: &mut TextBuffer, sink: &mut K, top: u64)
-    requires { top < 200000 }
-    ensures { Adds K.held K.faults sink.old sink.new text.old text.new (definition.message_sample top) }
-{
-    put_sample(text, sink, Class::Message, MESSAGE_LEFT, top, MESSAGE_WIDTH);
-    put_inner(text, sink, Class::Wordstring, FIRST_LEFT, top, STRING_WIDTH);
-    put_inner(
-        text,
-        sink,
-        Class::Wordstring,
-        SECOND_LEFT,
-        top,
-        STRING_WIDTH,
-    );
-    put_note(
-        text,
-        sink,
-        MESSAGE_WORDS,
-        top,
-        b"a message and its wordstrings: label, extension, +data words",
-    );
-}
-
-/// The same, where one is shown.
-fn put_messages<K: Sink>(text: &mut TextBuffer, sink: &mut K, there: bool, top: u64)
-    requires { top < 200000 }
-    ensures { Adds K.held K.faults sink.old sink.new text.old text.new (definition.legend_message there top) }
-{
-    if there {
-        put_message(text, sink, top);
-    }
-}
+const MESSAGE: Note = (
+    &[
+        Sample {
+            class: Class::Message,
+            left: 1500,
+            below: 0,
+            width: 700,
+            height: 180,
+        },
+        Sample {
+            class: Class::Wordstring,
+            left: 1540,
+            below: 30,
+            width: 260,
+            height: 120,
+        },
+        Sample {
+            class: Class::Wordstring,
+            left: 1900,
+            below: 30,
+            width: 260,
+            height: 120,
+        },
+    ],
+    2280,
+    b"a message and its wordstrings: label, extension, +data words",
+);
 
 /// What a garbled message is.
-fn put_garbled<K: Sink>(text: &mut TextBuffer, sink: &mut K, top: u64)
+const GARBLED: Note = (
+    &[
+        Sample {
+            class: Class::Garbled,
+            left: 6400,
+            below: 0,
+            width: 500,
+            height: 180,
+        },
+        Sample {
+            class: Class::Noise,
+            left: 6440,
+            below: 30,
+            width: 420,
+            height: 120,
+        },
+    ],
+    6980,
+    b"garbled",
+);
+
+/// What an overlap band is.
+const OVERLAP_BAND: Note = (
+    &[Sample {
+        class: Class::Overlap,
+        left: 7700,
+        below: 0,
+        width: 300,
+        height: 180,
+    }],
+    8080,
+    b"two or more at once",
+);
+
+/// What lies behind the horizon.
+const HORIZON: Note = (
+    &[Sample {
+        class: Class::Unobserved,
+        left: 1500,
+        below: 0,
+        width: 300,
+        height: 180,
+    }],
+    1880,
+    b"behind the horizon",
+);
+
+/// What the line of a gap is.
+const GAP: Note = (
+    &[Sample {
+        class: Class::Gap,
+        left: 3200,
+        below: 83,
+        width: 300,
+        height: LINE_HEIGHT as u32,
+    }],
+    3580,
+    b"gap: SG, TG",
+);
+
+/// What the line of a transmit interval is.
+const INTERVAL: Note = (
+    &[Sample {
+        class: Class::Interval,
+        left: 4550,
+        below: 83,
+        width: 300,
+        height: LINE_HEIGHT as u32,
+    }],
+    4930,
+    b"transmit interval: TI",
+);
+
+/// What the tick of an offset is.
+const OFFSET: Note = (
+    &[Sample {
+        class: Class::Mark,
+        left: 6400,
+        below: 67,
+        width: OFFSET_WIDTH as u32,
+        height: OFFSET_HEIGHT as u32,
+    }],
+    6480,
+    b"offset: AT",
+);
+
+/// Three heights of boxes of what takes less than a pixel: their square is the share that is busy.
+const SHARES: Note = (
+    &[
+        Sample {
+            class: Class::Wordstring,
+            left: 7700,
+            below: 0,
+            width: 60,
+            height: 180,
+        },
+        Sample {
+            class: Class::Wordstring,
+            left: 7800,
+            below: 90,
+            width: 60,
+            height: 90,
+        },
+        Sample {
+            class: Class::Wordstring,
+            left: 7900,
+            below: 135,
+            width: 60,
+            height: 45,
+        },
+    ],
+    8080,
+    b"low boxes: busy 1/1, 1/4, 1/16",
+);
+
+/// A note in a row with this upper edge, where there are boxes of which it tells.
+fn put<K: Sink>(text: &mut TextBuffer, sink: &mut K, there: bool, top: u64, note: &Note)
     requires { top < 200000 }
-    ensures { Adds K.held K.faults sink.old sink.new text.old text.new (definition.garbled_sample top) }
+    ensures { Adds K.held K.faults sink.old sink.new text.old text.new
+        (definition.noted there top note.now.0.now note.now.1 note.now.2.now) }
 {
-    put_sample(text, sink, Class::Garbled, GARBLED_LEFT, top, GARBLED_WIDTH);
-    put_inner(text, sink, Class::Noise, NOISE_LEFT, top, NOISE_WIDTH);
-    put_note(text, sink, GARBLED_WORDS, top, b"garbled");
+    put_note(text, sink, there, top, top + LEGEND_WORDS, note);
 }
 
-/// The same, where one is shown.
-fn put_all_garbled<K: Sink>(text: &mut TextBuffer, sink: &mut K, there: bool, top: u64)
-    requires { top < 200000 }
-    ensures { Adds K.held K.faults sink.old sink.new text.old text.new (definition.legend_garbled there top) }
-{
-    if there {
-        put_garbled(text, sink, top);
-    }
-}
-
-/// Overlap bands, where there are any.
-fn put_overlap_band<K: Sink>(text: &mut TextBuffer, sink: &mut K, there: bool, top: u64)
-    requires { top < 200000 }
-    ensures { Adds K.held K.faults sink.old sink.new text.old text.new (definition.legend_overlap_band there top) }
-{
-    if there {
-        put_sample(text, sink, Class::Overlap, OVERLAP_LEFT, top, COLUMN_WIDTH);
-        put_note(text, sink, OVERLAP_WORDS, top, b"two or more at once");
-    }
-}
-
-/// The row of boxes and overlap bands, of each kind that the picture has.
-fn put_boxes<K: Sink>(text: &mut TextBuffer, sink: &mut K, kinds: Kinds, top: u64)
-    requires { top < 200000 }
-    ensures { Adds K.held K.faults sink.old sink.new text.old text.new (definition.legend_boxes kinds top) }
-{
-    put_messages(text, sink, kinds.messages, top);
-    put_all_garbled(text, sink, kinds.garbled, top);
-    put_overlap_band(text, sink, kinds.overlap_bands, top);
-}
-
-/// The legend of a picture that has these kinds of marks, with this upper edge.
+/// The legend of a picture that has these kinds of marks, with this upper edge: a row of boxes and overlap bands, and one of what is drawn
+/// behind and between boxes, and of how high these are, of each kind that the picture has.
 pub(crate) fn put_legend<K: Sink>(text: &mut TextBuffer, sink: &mut K, kinds: Kinds, top: u64)
     requires { top < 150000 }
     ensures { Adds K.held K.faults sink.old sink.new text.old text.new (definition.legend_text kinds top) }
 {
-    put_boxes(text, sink, kinds, top);
-    put_between(text, sink, kinds, top + LEGEND_ROW);
+    put(text, sink, kinds.messages, top, &MESSAGE);
+    put(text, sink, kinds.garbled, top, &GARBLED);
+    put(text, sink, kinds.overlap_bands, top, &OVERLAP_BAND);
+    let below = top + LEGEND_ROW;
+    put(text, sink, kinds.unobserved, below, &HORIZON);
+    put(text, sink, kinds.gaps, below, &GAP);
+    put(text, sink, kinds.intervals, below, &INTERVAL);
+    put(text, sink, kinds.offsets, below, &OFFSET);
+    put(text, sink, kinds.thin, below, &SHARES);
 }

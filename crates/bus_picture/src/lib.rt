@@ -5,8 +5,8 @@
 //! `Rows` (what is drawn of the transmissions of a row), `OverlapBands` (where several are sent at once), `Lanes` (which lanes are drawn),
 //! `Gaps`, `Intervals` and `Timers` (the gaps in each quiet, and the transmit intervals), `Offsets` (where senders should start), `Marks`
 //! (the first breach), `Faults` (the faults that are found), `Paces` (how far starts lie apart), `Loads`, `Kinds` and `Legends` (which
-//! kinds of marks there are, and what they mean), and `TimeLines` (which rows there are, and the whole text). What all pictures share is in
-//! `bus_shapes`. No call takes memory.
+//! kinds of marks there are, and what they mean), and `TimeLines` (which rows there are, and the whole text). What draws is `bus_pen`, and what
+//! all pictures tell of a trace is in `bus_shapes`. No call takes memory.
 //!
 //! # How a picture is written
 //!
@@ -23,7 +23,7 @@
 //! what is garbled lies over what is plain, once for their loads, and once for the marks of faults. Only when its rows are all told of is
 //! the row of the first breach known, and with it how long the picture has to be.
 //!
-//! Only two kinds of elements are drawn, boxes and words, so that the text of an element is defined once, in bus_shapes.
+//! Only two kinds of elements are drawn, boxes and words, so that the text of an element is defined once, in bus_pen.
 //!
 //! A terminal gap is defined by one fold over the transmissions before a moment: from which place on the bus is quiet, and whether the
 //! synchronization gap has elapsed since the terminal's own last start. The writer goes over the list once for each sender. It keeps what
@@ -35,7 +35,6 @@
 //! place of seconds.
 #![tactic(auto)]
 
-mod between;
 mod boxes;
 mod canvas;
 mod choosing;
@@ -45,7 +44,6 @@ mod drawn_lines;
 mod fault;
 mod faults;
 mod heard;
-mod heights;
 mod intervals;
 mod kinds;
 mod lane_timings;

@@ -1,11 +1,11 @@
 //! The lines of timers, and the words of gaps.
 ghost use Rattle.std.specs.Prelude.{◌≡◌, ◌<◌, ◌≤◌, ◌^◌, true};
-ghost use Rattle.bus_shapes.specs.Scales.{IsScale};
+ghost use Rattle.bus_pen.specs.Scales.{IsScale};
 ghost use Rattle.bus_picture.specs.Timers as definition;
 
 use crate::measures::{GAP_REACH, LINE_HEIGHT, PLOT_LEFT};
-use bus_shapes::measures::PIXEL;
-use bus_shapes::{Area, Scale};
+use bus_pen::measures::PIXEL;
+use bus_pen::{Area, Scale};
 
 /// Whether what goes from one moment to a later one is drawn: it takes a pixel.
 pub(crate) fn is_drawn(scale: &Scale, from: u64, to: u64) -> bool

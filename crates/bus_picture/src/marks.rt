@@ -1,9 +1,9 @@
 //! The mark of the first breach.
 ghost use Rattle.std.specs.Prelude.{◌≡◌, ◌<◌, ◌≤◌, length};
 ghost use Rattle.bus_outer.specs.Texts.{Adds};
-ghost use Rattle.bus_shapes.specs.declared.class.Class.TheVariants.{Breach};
-ghost use Rattle.bus_shapes.specs.Scales.{IsScale, place};
-ghost use Rattle.bus_shapes.specs.Shapes.{box_text};
+ghost use Rattle.bus_pen.specs.declared.class.Class.TheVariants.{Breach};
+ghost use Rattle.bus_pen.specs.Scales.{IsScale, place};
+ghost use Rattle.bus_pen.specs.Shapes.{box_text};
 ghost use Rattle.bus_picture.specs.Lanes.{each_lane};
 ghost use Rattle.bus_picture.specs.Marks as definition;
 
@@ -16,7 +16,7 @@ use crate::places::has_moment;
 use bus_audit::{AuditAnswer, put_answer};
 use bus_dump::Lane;
 use bus_outer::{Sink, TextBuffer};
-use bus_shapes::{Area, Class, Scale, begin_words, end_words, put_box};
+use bus_pen::{Area, Class, Scale, begin_words, end_words, put_box};
 
 /// The dash above the boxes of a row with this upper edge.
 pub(crate) fn upper_dash(left: u64, width: u64, top: u64) -> Area

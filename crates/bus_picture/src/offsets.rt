@@ -1,14 +1,14 @@
 //! Where senders should start in periodic mode.
 ghost use Rattle.std.specs.Prelude.{◌≡◌, ◌+◌, ◌*◌, ◌<◌, ◌≤◌, ◌^◌};
 ghost use Rattle.bus_outer.specs.Texts.{Adds};
-ghost use Rattle.bus_shapes.specs.Scales.{IsScale};
+ghost use Rattle.bus_pen.specs.Scales.{IsScale};
 ghost use Rattle.bus_table.specs.declared.mode.Mode.TheVariants.{Periodic};
 ghost use Rattle.bus_picture.specs.Kinds as kinds;
 ghost use Rattle.bus_picture.specs.Offsets as definition;
 
 use crate::measures::{OFFSET_HEIGHT, OFFSET_WIDTH, TICK_BELOW};
 use bus_outer::{Sink, TextBuffer};
-use bus_shapes::{Area, Class, Scale, put_box};
+use bus_pen::{Area, Class, Scale, put_box};
 use bus_table::Mode;
 
 /// How many starts of a sender should lie before a moment.

@@ -10,7 +10,7 @@ use crate::measures::{BUS_LINE, PACE_LEFT, PLOT_TOP, TERMINAL_LINE};
 use crate::places::has_moment;
 use bus_dump::Lane;
 use bus_outer::{Sink, TextBuffer};
-use bus_shapes::{Class, Scale, begin_words, end_words, put_words};
+use bus_pen::{Class, Scale, begin_words, end_words, put_words};
 use bus_strings::Transmission;
 
 /// The least and the greatest time between two starts, in bit times.

@@ -1,10 +1,10 @@
 //! Where wordstrings and their words are.
 ghost use Rattle.std.specs.Prelude.{◌≡◌, ◌<◌, ◌≤◌, ◌^◌};
-ghost use Rattle.bus_shapes.specs.Scales.{IsScale};
+ghost use Rattle.bus_pen.specs.Scales.{IsScale};
 ghost use Rattle.bus_picture.specs.Strings as definition;
 
 use crate::measures::{STRING_BELOW, STRING_HEIGHT};
-use bus_shapes::{Area, Scale};
+use bus_pen::{Area, Scale};
 
 /// Whether what goes from one moment to another meets those of a scale.
 pub(crate) fn meets(scale: &Scale, from: u64, to: u64) -> bool

@@ -2,7 +2,7 @@
 ghost use Rattle.std.specs.Prelude.{◌≡◌, ◌<◌, ◌≤◌, ◌^◌, length};
 ghost use Rattle.bus_outer.specs.Texts.{Adds};
 ghost use Rattle.bus_shapes.specs.Sending.{sents as sents_of};
-ghost use Rattle.bus_shapes.specs.Scales.{IsScale};
+ghost use Rattle.bus_pen.specs.Scales.{IsScale};
 ghost use Rattle.bus_picture.specs.Rows.{rows_text};
 ghost use Rattle.bus_picture.specs.TimeLines as definition;
 
@@ -15,7 +15,8 @@ use crate::row::Row;
 use crate::subject::Subject;
 use bus_dump::Lane;
 use bus_outer::{Sink, TextBuffer};
-use bus_shapes::{Scale, Sent};
+use bus_pen::Scale;
+use bus_shapes::Sent;
 
 /// The two rows of one place: what isn't garbled, and over it what is.
 fn put_rows_at<K: Sink>(

@@ -2,7 +2,7 @@
 ghost use Rattle.std.specs.Prelude.{◌≡◌, ◌<◌, ◌≤◌, ◌^◌};
 ghost use Rattle.bus_outer.specs.Texts.{Adds};
 ghost use Rattle.bus_strings.specs.Transmissions.{IsByMoment};
-ghost use Rattle.bus_shapes.specs.Scales.{IsScale};
+ghost use Rattle.bus_pen.specs.Scales.{IsScale};
 ghost use Rattle.bus_picture.specs.Intervals as intervals;
 ghost use Rattle.bus_picture.specs.Timers as definition;
 ghost use Rattle.bus_picture.specs.inside.Starting as working;
@@ -12,7 +12,7 @@ use crate::intervals::put_last;
 use crate::lane_timings::LaneTimings;
 use crate::terminal_gaps::{put_gap_words, put_terminal_gap};
 use bus_outer::{Sink, TextBuffer};
-use bus_shapes::Scale;
+use bus_pen::Scale;
 use bus_strings::Transmission;
 
 /// The line of the terminal gap that ends by a transmission, where that is the first that begins at its moment.

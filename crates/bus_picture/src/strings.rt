@@ -3,8 +3,8 @@ ghost use Rattle.std.specs.Prelude.{◌≡◌, ◌<◌, ◌≤◌, ◌^◌, ◌+
 ghost use Rattle.std.specs.Option.{option_map_or};
 ghost use Rattle.bus_outer.specs.Texts.{Adds};
 ghost use Rattle.bus_strings.specs.Pulses.{pulse_length, pulse_start};
-ghost use Rattle.bus_shapes.specs.Sayings.{counted};
-ghost use Rattle.bus_shapes.specs.Scales.{IsScale};
+ghost use Rattle.bus_pen.specs.Numbers.{counted};
+ghost use Rattle.bus_pen.specs.Scales.{IsScale};
 ghost use Rattle.bus_picture.specs.Strings as definition;
 
 use crate::canvas::Canvas;
@@ -14,10 +14,10 @@ use crate::places::{meets, string_area};
 use crate::receivers::Receivers;
 use crate::words::{has_room, put_each_word};
 use bus_outer::{Sink, TextBuffer};
-use bus_shapes::{
-    Area, Class, Scale, Sent, begin_titled, begin_words, digits_class, end_titled, end_words,
-    put_counted,
+use bus_pen::{
+    Area, Class, Scale, begin_titled, begin_words, digits_class, end_titled, end_words, put_counted,
 };
+use bus_shapes::Sent;
 use bus_strings::{Transmission, Wordstring, pulse, pulse_count};
 
 /// How many data words a wordstring has.

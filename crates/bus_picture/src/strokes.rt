@@ -4,7 +4,7 @@ ghost use Rattle.bus_picture.specs.Rows as definition;
 
 use crate::measures::{GARBLED_OVERHANG, MESSAGE_OVERHANG};
 use crate::row::Row;
-use bus_shapes::Area;
+use bus_pen::Area;
 
 /// How far the stroke of a box of a row reaches beyond its edges.
 pub(crate) fn overhang(row: &Row, narrow: bool) -> u64

@@ -1,7 +1,7 @@
 //! The lines of terminal gaps, and their words.
 ghost use Rattle.std.specs.Prelude.{◌≡◌, ◌<◌, ◌≤◌, ◌^◌};
 ghost use Rattle.bus_outer.specs.Texts.{Adds};
-ghost use Rattle.bus_shapes.specs.Scales.{IsScale};
+ghost use Rattle.bus_pen.specs.Scales.{IsScale};
 ghost use Rattle.bus_picture.specs.Timers as definition;
 ghost use Rattle.bus_picture.specs.inside.Starting as working;
 
@@ -9,7 +9,7 @@ use crate::heard::Gap;
 use crate::lines::{has_words, is_drawn, line_area};
 use crate::measures::{GAP_BELOW, GAP_LINE, GAP_ROOM, NARROW};
 use bus_outer::{Sink, TextBuffer};
-use bus_shapes::{Area, Class, Scale, begin_words, end_words, put_box};
+use bus_pen::{Area, Class, Scale, begin_words, end_words, put_box};
 
 /// How much of a terminal gap there is, and of how much, where it isn't whole.
 fn put_gap_size<K: Sink>(text: &mut TextBuffer, sink: &mut K, tg: u32, gap: Gap)

@@ -1,7 +1,7 @@
 //! Whether a mark of timers is drawn in lanes.
 ghost use Rattle.std.specs.Prelude.{◌≡◌};
 ghost use Rattle.bus_audit.specs.Breaches.{held};
-ghost use Rattle.bus_shapes.specs.Scales.{IsScale};
+ghost use Rattle.bus_pen.specs.Scales.{IsScale};
 ghost use Rattle.bus_picture.specs.Kinds as definition;
 ghost use Rattle.bus_picture.specs.Timers as timers;
 
@@ -11,7 +11,8 @@ use crate::lane_timings::LaneTimings;
 use crate::offsets::has_tick;
 use crate::timers::{is_near, timings_of};
 use bus_dump::Lane;
-use bus_shapes::{Scale, held};
+use bus_pen::Scale;
+use bus_shapes::held;
 use bus_strings::laws::neighbours_tell;
 use bus_table::{Sender, Table, sender_of};
 use bus_trace::Trace;

@@ -2,7 +2,7 @@
 ghost use Rattle.std.specs.Prelude.{◌≡◌, ◌<◌, ◌≤◌, ◌+◌, ◌^◌, ◌++◌, true, codes, decimal, length};
 ghost use Rattle.bus_outer.specs.Texts.{Adds};
 ghost use Rattle.bus_strings.specs.Transmissions.{IsByMoment};
-ghost use Rattle.bus_shapes.specs.Scales.{IsScale};
+ghost use Rattle.bus_pen.specs.Scales.{IsScale};
 ghost use Rattle.bus_picture.specs.declared.measures.TheConstants.{GAP_LINE as gap_line, GAP_ROOM as gap_room};
 ghost use Rattle.bus_picture.specs.Timers as definition;
 ghost use Rattle.bus_picture.specs.TimeLines as whole;
@@ -16,7 +16,8 @@ use crate::starts::put_starts;
 use bus_dump::Lane;
 use bus_medium::quiet;
 use bus_outer::{Sink, TextBuffer};
-use bus_shapes::{Area, Class, Scale, Sent, Sents, begin_words, end_words, held, put_box};
+use bus_pen::{Area, Class, Scale, begin_words, end_words, put_box};
+use bus_shapes::{Sent, Sents, held};
 use bus_strings::Transmission;
 use bus_strings::laws::neighbours_tell;
 use bus_table::{Sender, Table, sender_of};

@@ -3,7 +3,7 @@ ghost use Rattle.std.specs.Prelude.{◌≡◌, ◌<◌, ◌≤◌, ◌+◌, ◌^
 ghost use Rattle.bus_outer.specs.Texts.{Adds};
 ghost use Rattle.bus_text.specs.Digits.{hexadecimal};
 ghost use Rattle.bus_strings.specs.Limits.{word_bits};
-ghost use Rattle.bus_shapes.specs.Scales.{IsScale};
+ghost use Rattle.bus_pen.specs.Scales.{IsScale};
 ghost use Rattle.bus_picture.specs.declared.measures.TheConstants.{DIGITS_ROOM as digits_room, LABEL_ROOM as label_room};
 ghost use Rattle.bus_picture.specs.Strings as definition;
 
@@ -11,7 +11,7 @@ use crate::measures::{DIGITS_ROOM, EDGE_WIDTH, LABEL_ROOM, STRING_LINE, WORD_ROO
 use crate::names::put_name;
 use crate::places::{meets, string_area};
 use bus_outer::{Sink, TextBuffer};
-use bus_shapes::{Area, Class, Scale, begin_words, digits_class, end_words, put_box, put_words};
+use bus_pen::{Area, Class, Scale, begin_words, digits_class, end_words, put_box, put_words};
 use bus_strings::Wordstring;
 use bus_strings::limits::WORD_BITS;
 use bus_text::four_digits;

@@ -3,7 +3,7 @@ ghost use Rattle.std.specs.Prelude.{◌≡◌, ◌<◌, ◌≤◌, length};
 ghost use Rattle.bus_load.specs.Loads.{IsCarrierOf};
 ghost use Rattle.bus_outer.specs.Sinks.{WritesText};
 ghost use Rattle.bus_outer.specs.Texts.{Adds};
-ghost use Rattle.bus_shapes.specs.Scales.{IsScale};
+ghost use Rattle.bus_pen.specs.Scales.{IsScale};
 ghost use Rattle.bus_shapes.specs.Sending.{sents as sents_of};
 ghost use Rattle.bus_picture.specs.TimeLines.{time_line_text};
 ghost use Rattle.bus_picture.specs.TimeLines as definition;
@@ -28,11 +28,12 @@ use arrayvec::ArrayVec;
 use bus_dump::{Lane, MOST_LANES, lanes_of};
 use bus_load::Stretch;
 use bus_outer::{Sink, TextBuffer, WriteFault};
-use bus_regime::TableVerdict;
-use bus_shapes::{
-    Area, Axis, Class, Scale, Sent, Told, Unit, begin_titled, begin_words, end_titled, end_words,
-    put_axis, put_frame, put_tail, put_words,
+use bus_pen::{
+    Area, Axis, Class, Scale, Unit, begin_titled, begin_words, end_titled, end_words, put_axis,
+    put_words,
 };
+use bus_regime::TableVerdict;
+use bus_shapes::{Sent, Told, put_frame, put_tail};
 use bus_table::Table;
 use bus_trace::{Trace, Window};
 

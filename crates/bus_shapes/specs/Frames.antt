@@ -4,56 +4,22 @@ use Rattle.bus_strings.specs.Messages.{Entry}
 use Rattle.bus_regime.specs.declared.table_verdict.TableVerdict.{TableVerdict}
 use Rattle.bus_regime.specs.Lines.{verdict_words}
 use Rattle.bus_table.specs.Tables.{Table}
-use Rattle.bus_shapes.specs.Classes.{Answer, Background, Fault, Note, rule_text, rules_text}
-use Rattle.bus_shapes.specs.Classes as classes
+use Rattle.bus_pen.specs.declared.area.Area.{Area}
+use Rattle.bus_pen.specs.declared.class.Class.TheVariants.{Answer, Background, Note}
+use Rattle.bus_pen.specs.declared.class.Class.TheVariants as classes
 use Rattle.bus_shapes.specs.Headings.{Told, Audit, OnCable, Findings, sending_words, told_heading, told_words, verdict_class}
 use Rattle.bus_shapes.specs.Headings.{verdict_heading}
-use Rattle.bus_shapes.specs.Numbers.{parted}
-use Rattle.bus_shapes.specs.Sayings.{counted, table_words}
-use Rattle.bus_shapes.specs.Shapes.{Area, box_text, words_text}
+use Rattle.bus_pen.specs.Numbers.{counted, parted}
+use Rattle.bus_pen.specs.Styles.{fault_style, style_text}
+use Rattle.bus_shapes.specs.Sayings.{table_words}
+use Rattle.bus_pen.specs.Shapes.{box_text, words_text}
 pub use Rattle.bus_shapes.specs.declared.counts.Counts.{Counts}
-use Rattle.bus_shapes.specs.declared.measures.TheConstants.{ANSWER_LINE as answer_line, FACTS_LINE as facts_line, HEAD_LINE as head_line}
-use Rattle.bus_shapes.specs.declared.measures.TheConstants.{LEFT_MARGIN as left_margin, PICTURE_WIDTH as picture_width, PIXEL as pixel}
-use Rattle.bus_shapes.specs.declared.measures.TheConstants.{RIGHT_MARGIN as right_margin}
+use Rattle.bus_pen.specs.declared.measures.TheConstants.{ANSWER_LINE as answer_line, FACTS_LINE as facts_line, HEAD_LINE as head_line}
+use Rattle.bus_pen.specs.declared.measures.TheConstants.{LEFT_MARGIN as left_margin, PICTURE_WIDTH as picture_width, PIXEL as pixel}
+use Rattle.bus_pen.specs.declared.measures.TheConstants.{RIGHT_MARGIN as right_margin}
 
 -- ---- the head
--- The style of words of every class.
-abbrev pub font_text : List ℕ
-font_text = codes "text{font-family:DejaVu Sans Mono,Menlo,Consolas,monospace;font-size:110px;fill:#222;pointer-events:none}\n"
-
--- The patterns that are told apart in grey, each a ground and a stripe: the hatching of what is garbled, the stripes across what is too
--- narrow for it, the hatching of what lies behind the horizon, the other way, and the dashes of a gap.
-abbrev pub hatch_text : List ℕ
-hatch_text =
-    codes "<defs><pattern id=\"hatch\" width=\"80\" height=\"80\" patternUnits=\"userSpaceOnUse\" patternTransform=\"rotate(45)\">"
-    ++ codes "<rect width=\"80\" height=\"80\" fill=\"#ffd2a8\"/><rect width=\"24\" height=\"80\" fill=\"#d55e00\"/></pattern>\n"
-    ++ codes "<pattern id=\"clash\" width=\"40\" height=\"40\" patternUnits=\"userSpaceOnUse\">"
-    ++ codes "<rect width=\"40\" height=\"40\" fill=\"#ffd2a8\"/><rect width=\"40\" height=\"24\" fill=\"#a63a00\"/></pattern>\n"
-    ++ codes "<pattern id=\"unseen\" width=\"70\" height=\"70\" patternUnits=\"userSpaceOnUse\" patternTransform=\"rotate(-45)\">"
-    ++ codes "<rect width=\"70\" height=\"70\" fill=\"#eceef1\"/><rect width=\"16\" height=\"70\" fill=\"#a4abb5\"/></pattern>\n"
-    ++ codes "<pattern id=\"dashes\" width=\"60\" height=\"60\" patternUnits=\"userSpaceOnUse\">"
-    ++ codes "<rect width=\"60\" height=\"60\" fill=\"#e6cd98\"/><rect width=\"36\" height=\"60\" fill=\"#8a5f00\"/></pattern></defs>\n"
-
--- What is drawn in another colour in a dark scheme, where the viewer asks for one, with contrasts as great.
-abbrev pub dark_text : List ℕ
-dark_text =
-    codes "@media(prefers-color-scheme:dark){\n"
-    ++ codes "text,.note{fill:#e6e8eb}.small,.detail{fill:#aab2bd}.gap-words{fill:#e8b75a}.interval-words{fill:#5fd6b0}\n"
-    ++ codes ".refusal{fill:#ff9a4d}.digits{fill:#000}.noise-digits,.breach-words{fill:#fff;stroke:#14171b}\n"
-    ++ codes ".background,.edge{fill:#14171b}.band{fill:#1b1f25}.grid{fill:#333a43}.tick,.span{fill:#9aa2ad}\n"
-    ++ codes ".message{fill:#17344a;stroke:#56b4e9}.wordstring{fill:#6fb7e6}.other{fill:#3f86b4}.label{fill:#b9def7}\n"
-    ++ codes ".garbled{stroke:#ff9a4d}#hatch rect{fill:#5a2b00}#hatch rect+rect{fill:#e8741e}\n"
-    ++ codes "#clash rect{fill:#5a2b00}#clash rect+rect{fill:#ff9a4d}#unseen rect{fill:#23282f}#unseen rect+rect{fill:#596270}\n"
-    ++ codes "#dashes rect{fill:#5c4410}#dashes rect+rect{fill:#e0a030}.interval{fill:#2fc79a}.mark,.breach{fill:#fff}}\n"
-
--- The style of a picture: its words, its classes, those of a dark scheme, and the hatching.
-abbrev pub style_text : List ℕ
-style_text = codes "<style>\n" ++ font_text ++ rules_text ++ dark_text ++ codes "</style>\n" ++ hatch_text
-
--- The style of the marks of findings, which only their pictures have.
-abbrev pub fault_style : List ℕ
-fault_style = codes "<style>\n" ++ rule_text Fault ++ codes "@media(prefers-color-scheme:dark){.fault{fill:#fff}}\n</style>\n"
-
+-- The style of the marks of findings, where they are told.
 abbrev pub told_style : Told → List ℕ
 told_style (Audit answer) = []
 told_style (OnCable garbled) = []

@@ -1,12 +1,7 @@
 -- What the contracts of this crate cite.
-pub mod Classes
-pub mod Shapes
-pub mod Numbers
 pub mod Sayings
 pub mod Sending
 pub mod SendingLaws
-pub mod Scales
-pub mod Axes
 pub mod Frames
 pub mod Later
 pub mod LaterLaws

@@ -1,23 +1,10 @@
--- What a picture says in words: of a number of things, of a table, of a moment and of a transmission.
-use Rattle.std.specs.Prelude.{ℕ, ◌-◌, ◌*◌, ◌/◌, ◌%◌, Bool, true, false, nat_eq, List, [], ◌++◌, length, codes, decimal}
-use Rattle.std.specs.Prelude.{if◌then◌else◌}
+-- What a picture says in words: of a table, of a moment and of a transmission.
+use Rattle.std.specs.Prelude.{ℕ, ◌-◌, ◌*◌, ◌/◌, ◌%◌, Bool, true, false, List, [], ◌++◌, length, codes, decimal}
 use Rattle.bus_table.specs.declared.mode.Mode.{Mode}
 use Rattle.bus_table.specs.Tables.{Table}
 use Rattle.bus_table.specs.Text.{mode_word}
-use Rattle.bus_shapes.specs.Numbers.{parted}
+use Rattle.bus_pen.specs.Numbers.{counted, parted}
 pub use Rattle.bus_shapes.specs.declared.sent.Sent.{Sent}
-
--- The ending of the name of so many.
-abbrev pub ending : ℕ → List ℕ
-ending count = if nat_eq count 1 then [] else codes "s"
-
--- So many of something, which has this name where it is one, with the thousands together.
-abbrev pub plainly_counted : ℕ → List ℕ → List ℕ
-plainly_counted count name = decimal count ++ codes " " ++ name ++ ending count
-
--- The same with the thousands parted.
-abbrev pub counted : ℕ → List ℕ → List ℕ
-counted count name = parted (decimal count) ++ codes " " ++ name ++ ending count
 
 -- ---- a table
 -- A mode, the transmit interval, the synchronization gap, and how many senders there are.

@@ -5,21 +5,20 @@ ghost use Rattle.bus_regime.specs.Lines.{verdict_words};
 ghost use Rattle.bus_shapes.specs.Frames.{frame_text};
 ghost use Rattle.bus_shapes.specs.Frames as definition;
 ghost use Rattle.bus_shapes.specs.Headings.{told_words};
-ghost use Rattle.bus_shapes.specs.Sayings.{counted, ending, summary_words, table_words};
+ghost use Rattle.bus_shapes.specs.Sayings.{summary_words, table_words};
 
-use crate::area::Area;
-use crate::class::Class;
 use crate::counts::Counts;
 use crate::heading::{put_told, put_told_heading, put_verdict_heading, verdict_class};
-use crate::measures::{
-    ANSWER_LINE, FACTS_LINE, HEAD_LINE, LEFT_MARGIN, PICTURE_WIDTH, PIXEL, RIGHT_MARGIN,
-};
-use crate::number::put_parted;
 use crate::on_cable::put_as_sent;
-use crate::shapes::{begin_words, end_words, put_box};
-use crate::style::{put_style, put_told_style};
 use crate::told::Told;
 use bus_outer::{Sink, TextBuffer};
+use bus_pen::measures::{
+    ANSWER_LINE, FACTS_LINE, HEAD_LINE, LEFT_MARGIN, PICTURE_WIDTH, PIXEL, RIGHT_MARGIN,
+};
+use bus_pen::{
+    Area, Class, begin_words, end_words, put_box, put_counted, put_fault_style, put_parted,
+    put_style,
+};
 use bus_regime::{TableVerdict, put_verdict};
 use bus_strings::Transmission;
 use bus_table::{Mode, Table, put_mode};
@@ -51,25 +50,6 @@ fn put_title<K: Sink>(text: &mut TextBuffer, sink: &mut K, verdict: &TableVerdic
     text.put(sink, b"; ");
     put_told(text, sink, told);
     text.put(sink, b"</title>\n");
-}
-
-/// The ending of a name of something of which there are so many.
-fn put_ending<K: Sink>(text: &mut TextBuffer, sink: &mut K, count: u64)
-    ensures { Adds K.held K.faults sink.old sink.new text.old text.new (ending count) }
-{
-    if count != 1 {
-        text.put_byte(sink, b's');
-    }
-}
-
-/// Puts how many there are of something, which has this name where it is one, with a thin space between the thousands.
-pub fn put_counted<K: Sink>(text: &mut TextBuffer, sink: &mut K, count: u64, name: &[u8])
-    ensures { Adds K.held K.faults sink.old sink.new text.old text.new (counted count name.now) }
-{
-    put_parted(text, sink, count);
-    text.put_byte(sink, b' ');
-    text.put(sink, name);
-    put_ending(text, sink, count);
 }
 
 /// How many senders the table has.
@@ -161,6 +141,16 @@ fn put_facts<K: Sink>(
     begin_words(text, sink, Class::Counts, RIGHT_MARGIN, FACTS_LINE);
     put_counts(text, sink, told, counts);
     end_words(text, sink);
+}
+
+/// The style of the marks of findings, where they are told.
+fn put_told_style<K: Sink>(text: &mut TextBuffer, sink: &mut K, told: &Told)
+    ensures { Adds K.held K.faults sink.old sink.new text.old text.new (definition.told_style told.now) }
+{
+    match told {
+        Told::Audit(_) | Told::OnCable { .. } => text.put(sink, b""),
+        Told::Findings { .. } => put_fault_style(text, sink),
+    }
 }
 
 /// Puts all that stands before the plot of a picture of this height, in units of a tenth of a pixel: its head, whose title has the words

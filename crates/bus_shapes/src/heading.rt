@@ -5,18 +5,16 @@ ghost use Rattle.bus_audit.specs.declared.answer.AuditAnswer.TheVariants.{Breach
 ghost use Rattle.bus_regime.specs.declared.table_verdict.TableVerdict.TheVariants.{ShortCycle, SmallGap, NoSync};
 ghost use Rattle.bus_table.specs.declared.mode.Mode.TheVariants.{Aperiodic, Periodic};
 ghost use Rattle.bus_shapes.specs.Headings as definition;
-ghost use Rattle.bus_shapes.specs.Sayings.{plainly_counted};
+ghost use Rattle.bus_pen.specs.Numbers.{plainly_counted};
 
-use crate::class::Class;
-use crate::frame::put_counted;
 use crate::later::later;
-use crate::number::{put_parted, put_parted_microseconds};
 use crate::on_cable::{put_known, put_on_cable};
 use crate::told::Told;
 use bus_audit::{AuditAnswer, BreachKind, put_answer};
 use bus_bounds::Bounds;
 use bus_findings::{Judgement, fault_sum, put_within};
 use bus_outer::{Sink, TextBuffer};
+use bus_pen::{Class, put_counted, put_parted, put_parted_microseconds};
 use bus_regime::TableVerdict;
 use bus_strings::{Transmission, put_microseconds_unit};
 use bus_table::Mode;

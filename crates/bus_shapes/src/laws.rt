@@ -1,17 +1,6 @@
-//! Laws of places, marks and transmissions in a picture. Each is the contract of a function that does nothing.
+//! Laws of late starts and of transmissions in a picture. Each is the contract of a function that does nothing.
 ghost use Rattle.bus_shapes.specs.LaterLaws.{LaterIsNext, NoneIsLater};
-ghost use Rattle.bus_shapes.specs.Laws.{MarksAreExact, PlacesLieWithin, PlacesRise, SentsAreTold};
-
-/// Places of moments: they don't fall as moments rise, and lie between the edges of the scale.
-pub fn places_keep_order()
-    ensures rise { PlacesRise }
-    ensures within { PlacesLieWithin }
-{}
-
-/// The number at each mark of an axis is exact: the mark is at so many of the units that the axis counts.
-pub fn marks_are_exact()
-    ensures { MarksAreExact }
-{}
+ghost use Rattle.bus_shapes.specs.Laws.{SentsAreTold};
 
 /// Where a heading says that a terminal is due, and in how many bit times its next start is, it starts then and not between; and where it
 /// says that it doesn't start, it doesn't from there on.

@@ -3,9 +3,9 @@ ghost use Rattle.std.specs.Prelude.{◌≡◌};
 ghost use Rattle.bus_outer.specs.Texts.{Adds};
 ghost use Rattle.bus_shapes.specs.Headings as definition;
 
-use crate::frame::put_counted;
 use crate::told::Told;
 use bus_outer::{Sink, TextBuffer};
+use bus_pen::put_counted;
 
 /// Puts how many receptions are garbled.
 fn put_receptions<K: Sink>(text: &mut TextBuffer, sink: &mut K, garbled: u64)

@@ -1,6 +1,6 @@
 -- The bounds of a page and of what is told of a transmission, on which the code relies for its numbers. No public clause cites it.
 use Rattle.std.specs.Prelude.{◌<◌, ◌≤◌, ◌+◌, ◌^◌}
-use Rattle.bus_shapes.specs.Scales.{IsScale}
+use Rattle.bus_pen.specs.Scales.{IsScale}
 use Rattle.bus_shapes.specs.declared.sent.Sent.{Sent}
 use Rattle.bus_cycles.specs.declared.measures.TheConstants.{PLAIN_ROW as plain_row, PLOT_LEFT as plot_left, SPLIT_ROW as split_row}
 use Rattle.bus_cycles.specs.Surveys.{most_rows}

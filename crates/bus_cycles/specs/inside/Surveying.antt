@@ -4,7 +4,7 @@ use Rattle.bus_shapes.specs.declared.sent.Sent.{Sent}
 use Rattle.bus_cycles.specs.Rows.{Cycle, Extent, Row, extent_of, rows_from}
 use Rattle.bus_cycles.specs.Cuts.{Seen}
 use Rattle.bus_cycles.specs.Surveys.{Survey, with_row}
-use Rattle.bus_shapes.specs.Scales.{scale_bound}
+use Rattle.bus_pen.specs.Scales.{scale_bound}
 
 -- A survey with the rows that are left.
 abbrev pub rest_of : Cycle → Seen → Option ℕ → Survey → List Row → Survey

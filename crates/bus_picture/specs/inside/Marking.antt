@@ -3,7 +3,7 @@ use Rattle.std.specs.Prelude.{ℕ, List, slice_get, Option, Some, None, if◌the
 use Rattle.std.specs.Option.{option_and_then}
 use Rattle.bus_strings.specs.Messages.{Entry}
 use Rattle.bus_findings.specs.declared.judgement.Judgement.{Judgement}
-use Rattle.bus_shapes.specs.declared.scale.Scale.{Scale}
+use Rattle.bus_pen.specs.declared.scale.Scale.{Scale}
 use Rattle.bus_picture.specs.Faults.{Fault, fault_of, is_marked}
 
 -- A fault, where it is marked.

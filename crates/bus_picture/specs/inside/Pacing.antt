@@ -1,7 +1,7 @@
 -- What a walk keeps that finds how far the starts of a terminal lie apart.
 use Rattle.std.specs.Prelude.{ℕ, ◌-◌, max, min, Option, Some, None, unwrap_or, if◌then◌else◌}
 use Rattle.bus_strings.specs.Messages.{Entry}
-use Rattle.bus_shapes.specs.declared.scale.Scale.{Scale}
+use Rattle.bus_pen.specs.declared.scale.Scale.{Scale}
 pub use Rattle.bus_picture.specs.declared.pace.Pacing.{Pacing}
 use Rattle.bus_picture.specs.Paces.{Pace, starts}
 

@@ -1,9 +1,9 @@
 use Rattle.std.proofs.Common.{List, ℕ, ◌++◌, ap, subst, ◌∙◌}
 use Rattle.bus_outer.specs.Texts.{Adds}
 use Rattle.bus_outer.proofs.TextLaws.{◌▸◌}
-use Rattle.bus_shapes.specs.declared.class.Class.{Class}
+use Rattle.bus_pen.specs.declared.class.Class.{Class}
 use Rattle.bus_shapes.specs.Sayings.{sent_words}
-use Rattle.bus_shapes.specs.Shapes.{titled_text}
+use Rattle.bus_pen.specs.Shapes.{titled_text}
 use Rattle.bus_cycles.specs.RowTexts.{class_of, number_text}
 use Rattle.bus_cycles.proofs.boxes.put_in.Goals as goal
 

@@ -1,7 +1,7 @@
 use Rattle.std.proofs.Common.{◌≡◌, Bool, true, List, [], ℕ, cond, sym, subst}
 use Rattle.std.proofs.lemmas.Bool.{lt-ltb}
 use Rattle.bus_outer.specs.Texts.{Adds}
-use Rattle.bus_shapes.specs.declared.area.Area.{Area}
+use Rattle.bus_pen.specs.declared.area.Area.{Area}
 use Rattle.bus_cycles.specs.RowTexts.{area_of, sent_text}
 use Rattle.bus_cycles.specs.Surveys.{is_drawn}
 use Rattle.bus_cycles.proofs.boxes.put_where_drawn.Goals as goal

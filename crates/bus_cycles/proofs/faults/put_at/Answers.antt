@@ -1,8 +1,8 @@
 use Rattle.std.proofs.Common.{ℕ, ◌+◌, ◌-◌, List, ◌++◌, ap, subst, ◌∙◌}
 use Rattle.bus_outer.specs.Texts.{Adds}
 use Rattle.bus_outer.proofs.TextLaws.{◌▸◌}
-use Rattle.bus_shapes.specs.declared.class.Class.TheVariants.{Fault}
-use Rattle.bus_shapes.specs.Shapes.{titled_text}
+use Rattle.bus_pen.specs.declared.class.Class.TheVariants.{Fault}
+use Rattle.bus_pen.specs.Shapes.{titled_text}
 use Rattle.bus_cycles.specs.Faults.{fault_part, title_of}
 use Rattle.bus_cycles.specs.RowTexts.{left_of}
 use Rattle.bus_cycles.proofs.faults.put_at.Goals as goal

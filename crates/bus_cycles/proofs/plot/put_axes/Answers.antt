@@ -1,7 +1,7 @@
 use Rattle.std.proofs.Common.{ℕ, ◌++◌, subst}
 use Rattle.bus_outer.specs.Texts.{Adds}
 use Rattle.bus_outer.proofs.TextLaws.{◌▸◌}
-use Rattle.bus_shapes.specs.Axes.{axis_text}
+use Rattle.bus_pen.specs.Axes.{axis_text}
 use Rattle.bus_cycles.specs.CyclesTexts.{lower_axis_to, upper_axis}
 use Rattle.bus_cycles.proofs.plot.put_axes.Goals as goal
 

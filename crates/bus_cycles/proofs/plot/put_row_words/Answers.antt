@@ -2,7 +2,7 @@ use Rattle.std.proofs.Common.{ℕ, ◌++◌, codes, subst}
 use Rattle.std.specs.Prelude.{decimal}
 use Rattle.bus_outer.specs.Texts.{Adds}
 use Rattle.bus_outer.proofs.TextLaws.{◌▸◌}
-use Rattle.bus_shapes.specs.Numbers.{parted}
+use Rattle.bus_pen.specs.Numbers.{parted}
 use Rattle.bus_cycles.specs.CyclesTexts.{last_ends_words, next_words}
 use Rattle.bus_cycles.proofs.plot.put_row_words.Goals as goal
 

@@ -2,8 +2,8 @@ use Rattle.std.proofs.Common.{List, ℕ, ◌++◌, subst, ap}
 use Rattle.std.specs.Prelude.{codes, decimal}
 use Rattle.bus_outer.specs.Texts.{Adds}
 use Rattle.bus_outer.proofs.TextLaws.{◌▸◌}
-use Rattle.bus_shapes.specs.declared.class.Class.TheVariants.{Small}
-use Rattle.bus_shapes.specs.Shapes.{words_text}
+use Rattle.bus_pen.specs.declared.class.Class.TheVariants.{Small}
+use Rattle.bus_pen.specs.Shapes.{words_text}
 use Rattle.bus_cycles.proofs.row_words.put_ends.Goals as goal
 
 pub returns : goal.returns

@@ -2,8 +2,8 @@ use Rattle.std.proofs.Common.{ℕ, ◌+◌, List, ◌++◌, ap, subst}
 use Rattle.std.specs.Prelude.{decimal}
 use Rattle.bus_outer.specs.Texts.{Adds}
 use Rattle.bus_outer.proofs.TextLaws.{◌▸◌}
-use Rattle.bus_shapes.specs.declared.class.Class.TheVariants.{Detail, Small}
-use Rattle.bus_shapes.specs.Shapes.{words_text}
+use Rattle.bus_pen.specs.declared.class.Class.TheVariants.{Detail, Small}
+use Rattle.bus_pen.specs.Shapes.{words_text}
 use Rattle.bus_cycles.specs.RowTexts.{begin_words, last_end_words}
 use Rattle.bus_cycles.proofs.row_words.put_row_words.Goals as goal
 

@@ -2,10 +2,10 @@ use Rattle.std.proofs.Common.{ℕ, ◌+◌, Bool, List, [], ◌++◌, cond, ap, 
 use Rattle.std.proofs.lemmas.Bool.{le-leb}
 use Rattle.bus_outer.specs.Texts.{Adds}
 use Rattle.bus_outer.proofs.TextLaws.{◌▸◌}
-use Rattle.bus_shapes.specs.declared.area.Area.{Area}
-use Rattle.bus_shapes.specs.declared.class.Class.TheVariants.{Small, Mark}
-use Rattle.bus_shapes.specs.Scales.{place}
-use Rattle.bus_shapes.specs.Shapes.{box_text}
+use Rattle.bus_pen.specs.declared.area.Area.{Area}
+use Rattle.bus_pen.specs.declared.class.Class.TheVariants.{Small, Mark}
+use Rattle.bus_pen.specs.Scales.{place}
+use Rattle.bus_pen.specs.Shapes.{box_text}
 use Rattle.bus_cycles.specs.CyclesTexts.{mark_line, mark_words}
 use Rattle.bus_cycles.specs.declared.measures.TheConstants.{MARK_WORDS_LINE as mark_words_line}
 use Rattle.bus_cycles.proofs.table_marks.put_mark.Goals as goal

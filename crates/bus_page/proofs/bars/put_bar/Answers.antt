@@ -2,11 +2,11 @@ use Rattle.std.proofs.Common.{List, ℕ, ◌++◌, ◌+◌, ◌-◌, ◌*◌, �
 use Rattle.std.specs.Prelude.{decimal}
 use Rattle.bus_outer.specs.Texts.{Adds}
 use Rattle.bus_outer.proofs.TextLaws.{◌▸◌}
-use Rattle.bus_shapes.specs.declared.area.Area.{Area}
-use Rattle.bus_shapes.specs.Scales.{place}
+use Rattle.bus_pen.specs.declared.area.Area.{Area}
+use Rattle.bus_pen.specs.Scales.{place}
 use Rattle.bus_page.specs.declared.paint.Paint.{Paint}
 use Rattle.bus_page.specs.Messages.{area_of}
-use Rattle.bus_shapes.specs.declared.class.Class.{Class}
+use Rattle.bus_pen.specs.declared.class.Class.{Class}
 use Rattle.bus_page.specs.Bars.{bar_end, before_text, behind_text, is_least, paint_of, words_class}
 use Rattle.bus_page.specs.Paints.{plain}
 use Rattle.bus_page.proofs.bars.put_bar.Goals as goal

@@ -3,7 +3,7 @@ use Rattle.std.specs.Prelude.{decimal}
 use Rattle.bus_outer.specs.Texts.{Adds}
 use Rattle.bus_outer.proofs.TextLaws.{◌▸◌}
 use Rattle.std.specs.Prelude.{length}
-use Rattle.bus_shapes.specs.declared.scale.Scale.{Scale}
+use Rattle.bus_pen.specs.declared.scale.Scale.{Scale}
 use Rattle.bus_page.specs.Bars.{bar_rows, bars_scale, tolerance_mark}
 use Rattle.bus_page.specs.Paints.{picture_end, picture_front}
 use Rattle.bus_page.proofs.bars.put_picture.Goals as goal

@@ -2,7 +2,7 @@ use Rattle.std.proofs.Common.{List, ℕ, ◌++◌, ◌+◌, ◌-◌, ◌*◌, �
 use Rattle.std.specs.Prelude.{decimal}
 use Rattle.bus_outer.specs.Texts.{Adds}
 use Rattle.bus_outer.proofs.TextLaws.{◌▸◌}
-use Rattle.bus_shapes.specs.declared.scale.Scale.{Scale}
+use Rattle.bus_pen.specs.declared.scale.Scale.{Scale}
 use Rattle.bus_page.specs.Cycles.{behind_text, long_lane, marks_text, scale_of, short_lane}
 use Rattle.bus_page.specs.Paints.{picture_end, picture_front}
 use Rattle.bus_page.proofs.cycles.put_cycles.Goals as goal

@@ -2,8 +2,8 @@ use Rattle.std.proofs.Common.{List, ℕ, ◌++◌, ◌+◌, ◌-◌, ◌*◌, �
 use Rattle.std.specs.Prelude.{decimal}
 use Rattle.bus_outer.specs.Texts.{Adds}
 use Rattle.bus_outer.proofs.TextLaws.{◌▸◌}
-use Rattle.bus_shapes.specs.Scales.{place}
-use Rattle.bus_shapes.specs.declared.class.Class.TheVariants.{GapWords}
+use Rattle.bus_pen.specs.Scales.{place}
+use Rattle.bus_pen.specs.declared.class.Class.TheVariants.{GapWords}
 use Rattle.bus_page.specs.Cycles.{number_words}
 use Rattle.bus_page.proofs.cycles.put_gap_words.Goals as goal
 

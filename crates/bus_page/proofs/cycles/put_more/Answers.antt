@@ -2,9 +2,9 @@ use Rattle.std.proofs.Common.{List, ℕ, ◌++◌, ◌+◌, ◌-◌, ◌*◌, �
 use Rattle.std.specs.Prelude.{decimal}
 use Rattle.bus_outer.specs.Texts.{Adds}
 use Rattle.bus_outer.proofs.TextLaws.{◌▸◌}
-use Rattle.bus_shapes.specs.Scales.{place}
-use Rattle.bus_shapes.specs.declared.class.Class.TheVariants.{Detail}
-use Rattle.bus_shapes.specs.Shapes.{words_text}
+use Rattle.bus_pen.specs.Scales.{place}
+use Rattle.bus_pen.specs.declared.class.Class.TheVariants.{Detail}
+use Rattle.bus_pen.specs.Shapes.{words_text}
 use Rattle.bus_page.proofs.cycles.put_more.Goals as goal
 
 pub returns : goal.returns

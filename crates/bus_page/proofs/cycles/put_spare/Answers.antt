@@ -2,7 +2,7 @@ use Rattle.std.proofs.Common.{List, ℕ, ◌++◌, ◌+◌, ◌-◌, ◌*◌, �
 use Rattle.std.specs.Prelude.{decimal}
 use Rattle.bus_outer.specs.Texts.{Adds}
 use Rattle.bus_outer.proofs.TextLaws.{◌▸◌}
-use Rattle.bus_shapes.specs.declared.area.Area.{Area}
+use Rattle.bus_pen.specs.declared.area.Area.{Area}
 use Rattle.bus_say.specs.Times.{time_text}
 use Rattle.bus_page.specs.Cycles.{spare_area}
 use Rattle.bus_page.specs.Paints.{painted}

@@ -2,7 +2,7 @@ use Rattle.std.proofs.Common.{List, ℕ, ◌++◌, ◌+◌, ◌-◌, ◌*◌, �
 use Rattle.std.specs.Prelude.{decimal}
 use Rattle.bus_outer.specs.Texts.{Adds}
 use Rattle.bus_outer.proofs.TextLaws.{◌▸◌}
-use Rattle.bus_shapes.specs.Scales.{place}
+use Rattle.bus_pen.specs.Scales.{place}
 use Rattle.bus_page.specs.Cycles.{corner}
 use Rattle.bus_page.proofs.cycles.put_upper_corners.Goals as goal
 

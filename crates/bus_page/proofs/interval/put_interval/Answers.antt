@@ -3,7 +3,7 @@ use Rattle.std.specs.Prelude.{decimal}
 use Rattle.bus_outer.specs.Texts.{Adds}
 use Rattle.bus_outer.proofs.TextLaws.{◌▸◌}
 use Rattle.std.specs.List.{flat_map}
-use Rattle.bus_shapes.specs.declared.scale.Scale.{Scale}
+use Rattle.bus_pen.specs.declared.scale.Scale.{Scale}
 use Rattle.bus_page.specs.Messages.{axes_text, lane_text}
 use Rattle.bus_page.specs.Intervals.{interval_scale, legend_text, slot_text}
 use Rattle.bus_page.specs.Paints.{picture_end, picture_front}

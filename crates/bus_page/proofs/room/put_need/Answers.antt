@@ -2,8 +2,8 @@ use Rattle.std.proofs.Common.{List, ℕ, ◌++◌, ◌+◌, ◌-◌, ◌*◌, �
 use Rattle.std.specs.Prelude.{decimal}
 use Rattle.bus_outer.specs.Texts.{Adds}
 use Rattle.bus_outer.proofs.TextLaws.{◌▸◌}
-use Rattle.bus_shapes.specs.declared.scale.Scale.{Scale}
-use Rattle.bus_shapes.specs.Scales.{place}
+use Rattle.bus_pen.specs.declared.scale.Scale.{Scale}
+use Rattle.bus_pen.specs.Scales.{place}
 use Rattle.bus_page.specs.Paints.{Need, plain}
 use Rattle.bus_page.specs.Rooms.{span_scale}
 use Rattle.bus_page.proofs.room.put_need.Goals as goal

@@ -2,9 +2,9 @@ use Rattle.std.proofs.Common.{List, ℕ, ◌++◌, ◌+◌, ap, subst, ◌∙◌
 use Rattle.bus_outer.specs.Texts.{Adds}
 use Rattle.bus_outer.proofs.TextLaws.{◌▸◌}
 use Rattle.std.specs.Prelude.{◌==◌}
-use Rattle.bus_shapes.specs.declared.area.Area.{Area}
-use Rattle.bus_shapes.specs.declared.class.Class.{Class}
-use Rattle.bus_shapes.specs.Scales.{place}
+use Rattle.bus_pen.specs.declared.area.Area.{Area}
+use Rattle.bus_pen.specs.declared.class.Class.{Class}
+use Rattle.bus_pen.specs.Scales.{place}
 use Rattle.bus_page.specs.declared.paint.Paint.{Paint}
 use Rattle.bus_page.specs.declared.paint.Paint.TheVariants.{Wait}
 use Rattle.bus_page.specs.Bars.{words_class}

@@ -1,9 +1,9 @@
 use Rattle.std.proofs.Common.{◌≡◌, ℕ, ◌+◌, ◌-◌, ◌++◌, ap, subst, ◌∙◌}
 use Rattle.bus_outer.specs.Texts.{Adds}
 use Rattle.bus_outer.proofs.TextLaws.{◌▸◌}
-use Rattle.bus_shapes.specs.declared.area.Area.{Area}
-use Rattle.bus_shapes.specs.declared.class.Class.{Class}
-use Rattle.bus_shapes.specs.Shapes.{titled_text}
+use Rattle.bus_pen.specs.declared.area.Area.{Area}
+use Rattle.bus_pen.specs.declared.class.Class.{Class}
+use Rattle.bus_pen.specs.Shapes.{titled_text}
 use Rattle.bus_picture.specs.Boxes.{is_narrow, cluster_words}
 use Rattle.bus_picture.specs.Rows.{box_area, box_class, inset, more_text, overhang, stretch}
 use Rattle.bus_picture.proofs.boxes.put_cluster.Goals as goal

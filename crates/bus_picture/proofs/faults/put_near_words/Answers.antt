@@ -2,8 +2,8 @@ use Rattle.std.proofs.Common.{ℕ, ◌+◌, Bool, [], cond, sym, subst}
 use Rattle.bus_outer.specs.Texts.{Adds}
 use Rattle.bus_outer.proofs.TextLaws.{◌▸◌}
 use Rattle.bus_findings.specs.Texts.{fault_words}
-use Rattle.bus_shapes.specs.declared.class.Class.TheVariants.{Note}
-use Rattle.bus_shapes.specs.Shapes.{words_text}
+use Rattle.bus_pen.specs.declared.class.Class.TheVariants.{Note}
+use Rattle.bus_pen.specs.Shapes.{words_text}
 use Rattle.bus_picture.specs.Faults.{words_left}
 use Rattle.bus_picture.specs.declared.measures.TheConstants.{FAULT_LINE as fault_line}
 use Rattle.bus_picture.proofs.faults.put_near_words.Goals as goal

@@ -1,6 +1,7 @@
-use Rattle.std.proofs.Common.{arith}
-use Rattle.std.proofs.lemmas.Grind.{common_steps}
+use Rattle.bus_outer.proofs.TextLaws.{◌▸◌}
 use Rattle.bus_picture.proofs.legend.put_legend.Goals as goal
 
 pub returns : goal.returns
-returns g c = grind (arith, common_steps)
+returns g c =
+    (c.put.ensures ▸ c.put-2.ensures ▸ c.put-3.ensures)
+    ▸ (c.put-4.ensures ▸ c.put-5.ensures ▸ c.put-6.ensures ▸ c.put-7.ensures ▸ c.put-8.ensures)

@@ -1,7 +1,7 @@
 use Rattle.std.proofs.Common.{Bool, cond, sym, subst, ◌∙◌}
 use Rattle.std.specs.Prelude.{nat_lt}
 use Rattle.bus_outer.specs.Texts.{Adds}
-use Rattle.bus_shapes.specs.Scales.{place}
+use Rattle.bus_pen.specs.Scales.{place}
 use Rattle.bus_picture.specs.Marks.{arrow_text, mark_text}
 use Rattle.bus_picture.proofs.marks.put_breach_at.Goals as goal
 

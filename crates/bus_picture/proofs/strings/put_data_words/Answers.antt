@@ -1,7 +1,7 @@
 use Rattle.std.proofs.Common.{ℕ, subst}
 use Rattle.std.specs.Prelude.{codes}
 use Rattle.bus_outer.specs.Texts.{Adds}
-use Rattle.bus_shapes.specs.Sayings.{counted}
+use Rattle.bus_pen.specs.Numbers.{counted}
 use Rattle.bus_picture.proofs.strings.put_data_words.Goals as goal
 
 pub returns : goal.returns

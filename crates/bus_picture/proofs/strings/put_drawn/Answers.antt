@@ -1,9 +1,9 @@
 use Rattle.std.proofs.Common.{◌++◌, subst}
 use Rattle.bus_outer.specs.Texts.{Adds}
 use Rattle.bus_outer.proofs.TextLaws.{◌▸◌}
-use Rattle.bus_shapes.specs.declared.area.Area.{Area}
-use Rattle.bus_shapes.specs.declared.class.Class.{Class}
-use Rattle.bus_shapes.specs.Shapes.{titled_text}
+use Rattle.bus_pen.specs.declared.area.Area.{Area}
+use Rattle.bus_pen.specs.declared.class.Class.{Class}
+use Rattle.bus_pen.specs.Shapes.{titled_text}
 use Rattle.bus_picture.specs.Strings.{inside_text, string_class, titled_words}
 use Rattle.bus_picture.proofs.strings.put_drawn.Goals as goal
 

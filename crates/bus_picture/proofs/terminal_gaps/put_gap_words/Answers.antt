@@ -1,6 +1,6 @@
 use Rattle.std.proofs.Common.{◌+◌, Bool, [], cond, sym, subst, ◌∙◌}
 use Rattle.bus_outer.specs.Texts.{Adds}
-use Rattle.bus_shapes.specs.declared.area.Area.{Area}
+use Rattle.bus_pen.specs.declared.area.Area.{Area}
 use Rattle.bus_picture.specs.declared.measures.TheConstants.{GAP_BELOW as gap_below}
 use Rattle.bus_picture.specs.Timers.{line_area}
 use Rattle.bus_picture.specs.inside.Starting.{words_over}

@@ -2,9 +2,9 @@ use Rattle.std.proofs.Common.{◌+◌, ◌++◌, Bool, [], codes, cond, sym, sub
 use Rattle.std.specs.Fmt.{decimal}
 use Rattle.bus_outer.specs.Texts.{Adds}
 use Rattle.bus_outer.proofs.TextLaws.{◌▸◌}
-use Rattle.bus_shapes.specs.declared.area.Area.{Area}
-use Rattle.bus_shapes.specs.declared.class.Class.TheVariants.{Gap}
-use Rattle.bus_shapes.specs.Shapes.{box_text}
+use Rattle.bus_pen.specs.declared.area.Area.{Area}
+use Rattle.bus_pen.specs.declared.class.Class.TheVariants.{Gap}
+use Rattle.bus_pen.specs.Shapes.{box_text}
 use Rattle.bus_picture.specs.declared.measures.TheConstants.{GAP_LINE as gap_line, GAP_ROOM as gap_room}
 use Rattle.bus_picture.specs.Timers.{gap_at, words_above}
 use Rattle.bus_picture.proofs.timers.put_sync_from.Goals as goal

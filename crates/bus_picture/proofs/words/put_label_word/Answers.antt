@@ -1,8 +1,8 @@
 use Rattle.std.proofs.Common.{◌++◌, subst}
 use Rattle.bus_outer.specs.Texts.{Adds}
 use Rattle.bus_outer.proofs.TextLaws.{◌▸◌}
-use Rattle.bus_shapes.specs.declared.class.Class.{Class}
-use Rattle.bus_shapes.specs.Shapes.{box_text}
+use Rattle.bus_pen.specs.declared.class.Class.{Class}
+use Rattle.bus_pen.specs.Shapes.{box_text}
 use Rattle.bus_picture.specs.declared.measures.TheConstants.{LABEL_ROOM as label_room}
 use Rattle.bus_picture.specs.Strings.{digits_text, name_words}
 use Rattle.bus_picture.proofs.words.put_label_word.Goals as goal

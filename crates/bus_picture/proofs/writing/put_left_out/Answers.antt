@@ -2,8 +2,8 @@ use Rattle.std.proofs.Common.{◌+◌, Bool, cond, [], ◌++◌, sym, subst, cod
 use Rattle.std.proofs.lemmas.Bool.{ne_eqb}
 use Rattle.bus_outer.specs.Texts.{Adds}
 use Rattle.bus_outer.proofs.TextLaws.{◌▸◌}
-use Rattle.bus_shapes.specs.declared.class.Class.TheVariants.{Small}
-use Rattle.bus_shapes.specs.Shapes.{words_text}
+use Rattle.bus_pen.specs.declared.class.Class.TheVariants.{Small}
+use Rattle.bus_pen.specs.Shapes.{words_text}
 use Rattle.bus_picture.specs.declared.measures.TheConstants.{LEFT_OUT_LINE as left_out_line, PLOT_LEFT as plot_left}
 use Rattle.bus_picture.proofs.writing.put_left_out.Goals as goal
 

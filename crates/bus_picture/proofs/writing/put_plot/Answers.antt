@@ -4,8 +4,8 @@ use Rattle.bus_picture.specs.Loads.{loads_text}
 use Rattle.bus_picture.specs.Paces.{paces_text}
 use Rattle.bus_outer.specs.Texts.{Adds}
 use Rattle.bus_outer.proofs.TextLaws.{◌▸◌}
-use Rattle.bus_shapes.specs.declared.class.Class.TheVariants.{Counts}
-use Rattle.bus_shapes.specs.Shapes.{words_text}
+use Rattle.bus_pen.specs.declared.class.Class.TheVariants.{Counts}
+use Rattle.bus_pen.specs.Shapes.{words_text}
 use Rattle.bus_picture.specs.Rows.{rows_text}
 use Rattle.bus_picture.specs.OverlapBands.{overlap_bands_text}
 use Rattle.bus_picture.specs.TimeLines.{axes_text, each_lane, lane_front, rows_of, timers_text, unobserved_text}

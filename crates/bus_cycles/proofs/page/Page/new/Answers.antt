@@ -1,5 +1,5 @@
 use Rattle.std.proofs.Common.{ℕ, List, min, ap, ◌∙◌}
-use Rattle.bus_shapes.specs.declared.scale.Scale.{Scale}
+use Rattle.bus_pen.specs.declared.scale.Scale.{Scale}
 use Rattle.bus_cycles.specs.Cuts.{Seen, seen_of}
 use Rattle.bus_cycles.specs.Pages.{Page, row_height_of, scale_of}
 use Rattle.bus_cycles.specs.Rows.{Cycle, cycle_of}

@@ -1,6 +1,0 @@
-use Rattle.bus_outer.proofs.TextLaws.{◌▸◌}
-use Rattle.bus_shapes.proofs.axis.put_name.Goals as goal
-
-pub returns : goal.returns
-returns g c =
-    c.begin_words.ensures ▸ c.put_unit.ensures ▸ c.end_words.ensures

@@ -1,4 +1,0 @@
-use Rattle.bus_shapes.proofs.number.+put_parted.Given as goal
-
-abbrev pub decreases-put_parted : goal.decreases-put_parted
-decreases-put_parted g l = l.number

@@ -1,7 +1,0 @@
-use Rattle.bus_outer.proofs.TextLaws.{◌▸◌}
-use Rattle.bus_shapes.proofs.shapes.put_front.Goals as goal
-
-pub returns : goal.returns
-returns g c =
-    c.put.ensures ▸ c.put_name.ensures ▸ c.put-2.ensures ▸ c.put_number.ensures ▸ c.put-3.ensures ▸ c.put_number-2.ensures
-    ▸ c.put-4.ensures ▸ c.put_number-3.ensures ▸ c.put-5.ensures ▸ c.put_number-4.ensures ▸ c.put_byte.ensures

@@ -1,5 +1,0 @@
-use Rattle.bus_outer.proofs.TextLaws.{◌▸◌}
-use Rattle.bus_shapes.proofs.style.put_fault_style.Goals as goal
-
-pub returns : goal.returns
-returns g c = c.put.ensures ▸ c.put_rule.ensures ▸ c.put-2.ensures
