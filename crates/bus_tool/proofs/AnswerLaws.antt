@@ -1,5 +1,5 @@
 -- At which stage the answers come, and which of them are answers.
-use Rattle.std.specs.Prelude.{◌≡◌, ℕ, ◌≤◌, nat_lt, true, false, Bool, List, Option, Some, None, IfSome, Result, Ok, Err}
+use Rattle.std.specs.Prelude.{◌≡◌, ℕ, ◌≤◌, nat_lt, true, false, Bool, List, [], Option, Some, None, IfSome, Result, Ok, Err}
 use Rattle.std.proofs.Common.{arith, refl, sym, ap, subst, cond}
 use Rattle.std.proofs.lemmas.Bool.Decides.{nat_tests}
 use Rattle.bus_table.specs.Tables.{Table, Hand}
@@ -17,6 +17,9 @@ use Rattle.bus_table.specs.declared.mode.Mode.{Mode}
 use Rattle.bus_table.specs.declared.mode.Mode.TheVariants.{Aperiodic, Periodic}
 use Rattle.bus_plan.specs.Answers.{plan_of}
 use Rattle.bus_cable_plan.specs.declared.planning.CablePlan.{CablePlan}
+use Rattle.bus_made.specs.declared.answer.Answer.{Answer as MadeAnswer}
+use Rattle.bus_made.specs.declared.answer.Answer.TheVariants.{Made, Infeasible as NotMade, Late}
+use Rattle.bus_made.specs.Answers.{answer_of}
 use Rattle.bus_cable_plan.specs.declared.planning.CablePlan.TheVariants.{Planned as CablePlanned, Infeasible as NoneBears, Undecided}
 use Rattle.bus_plan.specs.declared.planning.PlanAnswer.{PlanAnswer}
 use Rattle.bus_plan.specs.declared.planning.PlanAnswer.TheVariants.{Planned, Infeasible}
@@ -31,9 +34,9 @@ use Rattle.bus_command.specs.declared.outcome.Outcome.TheVariants.{Done}
 use Rattle.bus_command.specs.Kinds.{Answer, kind_of, stage_of}
 use Rattle.bus_command.specs.Stages.{stage_in}
 use Rattle.bus_command.proofs.StageLaws.{stage_with, then_stage}
-use Rattle.bus_tool.specs.Due.{verdict_outcome, plan_outcome, cable_plan_of, cable_plan_outcome, level_outcome, turns_outcome, outcome_in, margins_outcome, audit_outcome, findings_outcome, table_answer, messages_answer}
+use Rattle.bus_tool.specs.Due.{verdict_outcome, plan_outcome, cable_plan_of, cable_plan_outcome, design_outcome, level_outcome, turns_outcome, outcome_in, margins_outcome, audit_outcome, findings_outcome, table_answer, messages_answer}
 use Rattle.bus_tool.specs.Due.{even_due, accepted_due, short_due, last_due, may_run, can_run, can_schedule, may_drop, can_drop}
-use Rattle.bus_tool.specs.Forms.{TableCommand, Check, Tolerance, Tidy, Report, Witness, Plan, PlanFor, Margins, MessagesCommand, Observe, Run, Drop, Schedule}
+use Rattle.bus_tool.specs.Forms.{TableCommand, Check, Tolerance, Tidy, Report, Witness, Plan, PlanFor, Margins, Design, MessagesCommand, Observe, Run, Drop, Schedule}
 use Rattle.bus_tool.specs.Refusals.{Outcome, refuse, NotAccepted, ShortLast, TooLong}
 
 -- ---- the answers
@@ -72,6 +75,11 @@ written_margins (ShortCycle least ti) bounds table = refl
 written_margins (SmallGap terminal gap needed) bounds table = refl
 written_margins (NoSync terminal gap needed) bounds table = refl
 
+pub written_design : (answer : MadeAnswer) → kind_of (design_outcome answer) ≡ Answer
+written_design (Made made) = refl
+written_design (NotMade terminal blame) = refl
+written_design (Late lack) = refl
+
 pub written_audit : (answer : AuditAnswer) → kind_of (audit_outcome answer) ≡ Answer
 written_audit (Lawful collided) = refl
 written_audit (Breach moment terminal kind) = refl
@@ -89,6 +97,7 @@ table_answered Witness table = refl
 table_answered Plan table = written_plan (plan_of table)
 table_answered (PlanFor delay) table = written_cable_plan (cable_plan_of delay table)
 table_answered (Margins bounds) table = written_margins (verdict_of table) bounds table
+table_answered (Design bounds order) table = written_design (answer_of bounds order [] table)
 
 -- ---- their stages
 pub answer_late : (o : Outcome) → kind_of o ≡ Answer → 2 ≤ stage_of (kind_of o)

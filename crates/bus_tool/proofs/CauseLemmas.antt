@@ -1,5 +1,5 @@
 -- The cause of each refusal of a text, by what is due.
-use Rattle.std.specs.Prelude.{◌≡◌, ℕ, List, Result, Ok, Err}
+use Rattle.std.specs.Prelude.{◌≡◌, ℕ, List, [], Result, Ok, Err}
 use Rattle.std.proofs.Common.{refl, sym, ap, subst, inl, inr}
 use Rattle.bus_strings.specs.Items.{Item}
 use Rattle.bus_table.specs.Tables.{Table}
@@ -15,6 +15,9 @@ use Rattle.bus_margins_periodic.specs.Margins.{level_of as turns_level}
 use Rattle.bus_table.specs.declared.mode.Mode.{Mode}
 use Rattle.bus_plan.specs.Answers.{plan_of}
 use Rattle.bus_cable_plan.specs.declared.planning.CablePlan.{CablePlan}
+use Rattle.bus_made.specs.declared.answer.Answer.{Answer as MadeAnswer}
+use Rattle.bus_made.specs.declared.answer.Answer.TheVariants.{Made, Infeasible as NotMade, Late}
+use Rattle.bus_made.specs.Answers.{answer_of}
 use Rattle.bus_cable_plan.specs.declared.planning.CablePlan.TheVariants.{Planned as CablePlanned, Infeasible as NoneBears, Undecided}
 use Rattle.bus_plan.specs.declared.planning.PlanAnswer.{PlanAnswer}
 use Rattle.bus_plan.specs.declared.planning.PlanAnswer.TheVariants.{Planned, Infeasible}
@@ -29,11 +32,11 @@ use Rattle.bus_command.proofs.ActLaws.{DueHasCause}
 use Rattle.bus_command.proofs.ReadLemmas.{CauseLaws, table_cause, table_valid, items_cause, items_read, inputs_read, inputs_stop, trace_cause, traced_stop}
 use Rattle.bus_tool.specs.Acts.{tool_program}
 use Rattle.bus_tool.specs.Causes.{Cause, EndIs, IsEndOf, IsNoEnd, DifferAs, IsRefusal, IsShortLast, IsLongEnd}
-use Rattle.bus_tool.specs.Due.{table_for, verdict_outcome, plan_outcome, cable_plan_of, cable_plan_outcome, level_outcome, turns_outcome, outcome_in, margins_outcome, can_run, can_drop, can_schedule, unwave_due, wave_trace_due}
+use Rattle.bus_tool.specs.Due.{table_for, verdict_outcome, plan_outcome, cable_plan_of, cable_plan_outcome, design_outcome, level_outcome, turns_outcome, outcome_in, margins_outcome, can_run, can_drop, can_schedule, unwave_due, wave_trace_due}
 use Rattle.bus_tool.specs.Due.{table_answer, inputs_answer, traced_answer, unwave_answer}
 use Rattle.bus_tool.proofs.DiagnoseLemmas.{beside_cause}
 use Rattle.bus_tool.proofs.ExplainLemmas.{explain_cause}
-use Rattle.bus_tool.specs.Forms.{OnTable, OnMessages, OnTrace, Unwave, Drill, OnItself, Explain, ExplainBeside, Facts, Cable, TableCommand, Check, Tolerance, Tidy, Report, Witness, Plan, PlanFor, Margins}
+use Rattle.bus_tool.specs.Forms.{OnTable, OnMessages, OnTrace, Unwave, Drill, OnItself, Explain, ExplainBeside, Facts, Cable, TableCommand, Check, Tolerance, Tidy, Report, Witness, Plan, PlanFor, Margins, Design}
 use Rattle.bus_tool.specs.Forms.{MessagesCommand, Observe, Run, Drop, Schedule, table_mode, messages_mode}
 use Rattle.bus_tool.specs.Refusals.{Outcome, ToolRefusal}
 use Rattle.bus_tool.proofs.AnswerLaws.{done_with}
@@ -66,6 +69,11 @@ cable_plan_cause IsEnd first second (CablePlanned table) = tt
 cable_plan_cause IsEnd first second (NoneBears least ti) = tt
 cable_plan_cause IsEnd first second (Undecided least ti) = tt
 
+design_cause : (IsEnd : EndIs) (first second : List ℕ) (answer : MadeAnswer) → RefusesTexts (Cause IsEnd) (design_outcome answer) first second
+design_cause IsEnd first second (Made made) = tt
+design_cause IsEnd first second (NotMade terminal blame) = tt
+design_cause IsEnd first second (Late lack) = tt
+
 level_cause : (IsEnd : EndIs) (first second : List ℕ) (level : Level) → RefusesTexts (Cause IsEnd) (level_outcome level) first second
 level_cause IsEnd first second Any = tt
 level_cause IsEnd first second Common = tt
@@ -97,6 +105,7 @@ table_answer_cause IsEnd Witness first second table = tt
 table_answer_cause IsEnd Plan first second table = plan_cause IsEnd first second (plan_of table)
 table_answer_cause IsEnd (PlanFor delay) first second table = cable_plan_cause IsEnd first second (cable_plan_of delay table)
 table_answer_cause IsEnd (Margins bounds) first second table = margins_cause IsEnd first second (verdict_of table) bounds table
+table_answer_cause IsEnd (Design bounds order) first second table = design_cause IsEnd first second (answer_of bounds order [] table)
 
 -- ---- a table and messages
 -- the texts of inputs that were read, of which this holds

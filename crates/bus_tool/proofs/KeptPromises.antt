@@ -54,6 +54,7 @@ use Rattle.bus_tool.proofs.FindingsClaim.{FindingsLaws, findings_claim}
 use Rattle.bus_tool.proofs.GroupClaims.{table_comes, trace_comes}
 use Rattle.bus_tool.proofs.MarginsClaim.{MarginsLaws, margins_claim}
 use Rattle.bus_tool.proofs.ObserveClaim.{observe_claim}
+use Rattle.bus_tool.proofs.DesignClaim.{DesignLaws, design_claim, design_stands}
 use Rattle.bus_tool.proofs.CablePlanClaim.{CablePlanLaws, plan_for_claim, plan_for_stands, plan_best_claim, plan_best_stands}
 use Rattle.bus_tool.proofs.PlanClaim.{PlanLaws, plan_claim}
 use Rattle.bus_tool.proofs.RunClaim.{run_claim}
@@ -67,6 +68,7 @@ use Rattle.bus_tool.proofs.WaveClaim.{WaveLaws, has_a_wave_text, wave_claim, unw
 pub record PromiseLaws : Type 0 where
   pub plan : PlanLaws
   pub cable_plan : CablePlanLaws
+  pub design : DesignLaws
   pub wave : WaveLaws
   pub exact : TheSettledAreAccepted
   pub fails : TheRefusedFail
@@ -191,6 +193,7 @@ keeps laws call outcome acts = record {
   check = λ table h. check_claim laws call outcome table acts h;
   tolerance = λ table h. tolerance_claim laws call outcome table acts h;
   margins = λ bounds table h. margins_claim laws.plan.texts laws.margins call outcome bounds table acts h;
+  design = λ bounds order table h mode. design_claim laws.plan.texts laws.design call outcome bounds order table acts h mode;
   witness = λ table h. table_replies laws Witness (codes "witness") call outcome table _ (TheMessages (witness_of table)) (λ path. refl) tt refl tt refl acts h;
   tidy = λ table h.
       table_replies laws Tidy (codes "tidy") call outcome table _ (TheTable table) (λ path. refl) tt refl (laws.plan.text_stands table h.table_told.valid) refl acts h;
@@ -221,11 +224,12 @@ keeps laws call outcome acts = record {
 }
 
 -- ---- and what their texts tell
-pub spells : CablePlanLaws → WaveLaws → (call : Call) → Spells call
-spells plans waves call = record {
+pub spells : CablePlanLaws → DesignLaws → WaveLaws → (call : Call) → Spells call
+spells plans designs waves call = record {
   tolerance = λ table h accepted. start_told table accepted;
   plan_for = λ d table h periodic. plan_for_stands plans call d table h periodic;
   plan_best = λ table h periodic. plan_best_stands plans call table h periodic;
+  design = λ bounds order table h mode. design_stands designs call bounds order table h mode;
   wave = λ table trace h. has_a_wave_text waves call table trace h;
   received = λ table list. sym (received_same table list);
   heard = λ table cable list. sym (heard_same table cable list);

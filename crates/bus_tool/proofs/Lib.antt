@@ -25,6 +25,7 @@ pub mod ReplyLemmas
 pub mod CheckClaim
 pub mod PlanClaim
 mod CablePlanClaim
+mod DesignClaim
 pub mod ToleranceLemmas
 pub mod ExplainLemmas
 pub mod FactsLemmas

@@ -32,10 +32,14 @@ use Rattle.bus_command.specs.Outside.{Call}
 use Rattle.bus_command.specs.declared.outcome.Outcome.TheVariants.{Done, Answered}
 use Rattle.bus_command.specs.declared.status.Status.{Status}
 use Rattle.bus_tool.specs.Answering.{Answers, IsTextOf, Stands, receipt_text, receipts_text, heard_by_text, hearings_text, reply_text}
+use Rattle.bus_made.specs.declared.answer.Answer.{Answer as MadeAnswer}
+use Rattle.bus_made.specs.declared.answer.Answer.TheVariants.{Made, Infeasible as NotMade, Late}
+use Rattle.bus_made.specs.Texts.{answer_text as design_text}
+use Rattle.bus_tool.specs.DesignClaims.{StandsWhereMade, design_reply, is_made}
 use Rattle.bus_tool.specs.CablePlanClaims.{StandsWherePlanned, is_planned, plan_reply}
 use Rattle.bus_tool.specs.Diagnosing.{given_beside}
 use Rattle.bus_tool.specs.DiagnosisClaims.{is_given_right}
-use Rattle.bus_tool.specs.Due.{verdict_outcome, margins_outcome, outcome_in, level_outcome, turns_outcome, findings_outcome, cable_plan_outcome, text_outcome}
+use Rattle.bus_tool.specs.Due.{verdict_outcome, margins_outcome, outcome_in, level_outcome, turns_outcome, findings_outcome, design_outcome, cable_plan_outcome, text_outcome}
 use Rattle.bus_tool.specs.MarginsClaims.{has_level, has_margins, is_level, is_turns_level, margins_reply}
 use Rattle.bus_tool.specs.MarginsTexts.{margins_answer}
 use Rattle.bus_tool.specs.PlanTexts.{cable_plan_text}
@@ -92,6 +96,11 @@ plan_status (Planned table) = refl
 plan_status (Infeasible least ti) = refl
 plan_status (Undecided least ti) = refl
 
+pub design_status : (answer : MadeAnswer) → status_of (design_outcome answer) ≡ yes_or_no (is_made answer)
+design_status (Made made) = refl
+design_status (NotMade terminal blame) = refl
+design_status (Late lack) = refl
+
 pub findings_status : (fault : Bool) → status_of (findings_outcome fault) ≡ yes_or_no (not fault)
 findings_status true = refl
 findings_status false = refl
@@ -143,6 +152,16 @@ pub plan_stands : (plan : CablePlan) → StandsWherePlanned plan → Stands (pla
 plan_stands (Planned table) stands = stands
 plan_stands (Infeasible least ti) stands = tt
 plan_stands (Undecided least ti) stands = tt
+
+pub design_same : (answer : MadeAnswer) → design_text answer ≡ reply_text (design_reply answer)
+design_same (Made made) = refl
+design_same (NotMade terminal blame) = refl
+design_same (Late lack) = refl
+
+pub design_stands : (answer : MadeAnswer) → StandsWhereMade answer → Stands (design_reply answer)
+design_stands (Made made) stands = stands
+design_stands (NotMade terminal blame) stands = tt
+design_stands (Late lack) stands = tt
 
 -- what is received, terminal by terminal
 received_each : (list : List Entry) (all : List Taker) → flat_map (taker_text list) all ≡ flat_map receipt_text (map (receipt_of list) all)

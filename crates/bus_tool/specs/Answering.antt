@@ -20,9 +20,10 @@ use Rattle.bus_tool.specs.Diagnosing.{beside, beside_told}
 use Rattle.bus_tool.specs.Drills.{figures}
 use Rattle.bus_tool.specs.Explanations.{explanation}
 use Rattle.bus_tool.specs.Itself.{itself_text}
+use Rattle.bus_made.specs.Texts.{answer_text as design_text}
 use Rattle.bus_tool.specs.MarginsTexts.{margins_text}
 use Rattle.bus_tool.specs.PlanTexts.{infeasible_line, undecided_line}
-use Rattle.bus_tool.specs.Replies.{Receipt, Hearing, Reply, TheVerdict, TheTolerance, TheMargins, TheMessages, TheTable, NoOffsets, Unknown}
+use Rattle.bus_tool.specs.Replies.{Receipt, Hearing, Reply, TheVerdict, TheTolerance, TheMargins, NoDesign, TheMessages, TheTable, NoOffsets, Unknown}
 use Rattle.bus_tool.specs.Replies.{TheReport, TheDrill, TheTrace, TheRun, TheReceipts, TheAudit, TheFindings, TheVotes, TheWave}
 use Rattle.bus_tool.specs.Replies.{TheExplanation, TheDiagnosis, TheFacts, OnTheCable, OfItself}
 use Rattle.bus_tool.specs.Reports.{report_text}
@@ -49,6 +50,7 @@ abbrev pub reply_text : Reply → List ℕ
 reply_text (TheVerdict verdict) = verdict_line verdict
 reply_text (TheTolerance mode tolerance least most any_start) = tolerance_fields mode tolerance least most any_start
 reply_text (TheMargins bounds table) = margins_text table.mode bounds table
+reply_text (NoDesign answer) = design_text answer
 reply_text (TheMessages items) = messages_text items
 reply_text (TheTable table) = table_text table
 reply_text (NoOffsets least ti) = infeasible_line least ti
@@ -73,6 +75,7 @@ abbrev pub Stands : Reply → Type 0
 Stands (TheVerdict verdict) = Unit {0}
 Stands (TheTolerance mode tolerance least most any_start) = Unit {0}
 Stands (TheMargins bounds table) = Unit {0}
+Stands (NoDesign answer) = Unit {0}
 Stands (TheMessages items) = Unit {0}
 Stands (TheTable table) = IsTableText table (table_text table)
 Stands (NoOffsets least ti) = Unit {0}

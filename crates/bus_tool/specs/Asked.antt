@@ -5,6 +5,7 @@ use Rattle.bus_table.specs.Tables.{Table}
 use Rattle.bus_trace.specs.Traces.{Recording}
 use Rattle.bus_bounds.specs.Bounds.{Bounds}
 use Rattle.bus_cable.specs.Cables.{Cable}
+use Rattle.bus_made.specs.declared.order.Order.{Order}
 use Rattle.bus_command.specs.declared.about.About.{About}
 
 -- A command and the values that it is asked of, right or not: `Asks` adds that tables are valid, that items fit, that traces are traces,
@@ -13,6 +14,7 @@ pub data Asked : Type 0 where
   Check : (table : Table) → Asked
   Tolerance : (table : Table) → Asked
   Margins : (bounds : Bounds) (table : Table) → Asked
+  Design : (bounds : Bounds) (order : Order) (table : Table) → Asked
   Witness : (table : Table) → Asked
   Tidy : (table : Table) → Asked
   Plan : (table : Table) → Asked

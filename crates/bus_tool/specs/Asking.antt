@@ -25,10 +25,11 @@ use Rattle.std.specs.Int.{div_ceil}
 use Rattle.bus_command.specs.Claims.{IsFormOfOne, IsFormOfTwo, TellsTable, NothingFails, IsOfTable, IsOfItems, IsOfTraced}
 use Rattle.bus_command.specs.Outside.{Seen, Call}
 use Rattle.bus_command.specs.Readers.{entire, no_source, one_source, two_sources, text_limit}
-use Rattle.bus_tool.specs.Asked.{Asked, Check, Tolerance, Margins, Witness, Tidy, Plan, PlanFor, PlanBest, Report, Drill, Observe, Run}
+use Rattle.bus_tool.specs.Asked.{Asked, Check, Tolerance, Margins, Design, Witness, Tidy, Plan, PlanFor, PlanBest, Report, Drill, Observe, Run}
 use Rattle.bus_tool.specs.Asked.{Drop, Schedule, Receive, Audit, Diagnose, Vote}
 use Rattle.bus_tool.specs.Asked.{Wave, Unwave, Explain, ExplainBeside, Facts, OnCable, Itself}
-use Rattle.bus_tool.specs.Forms.{entire_beside, entire_wave, wave_limit}
+use Rattle.bus_made.specs.declared.order.Order.{Order}
+use Rattle.bus_tool.specs.Forms.{entire_beside, order_by, entire_wave, wave_limit}
 
 -- ---- a table
 -- A call of `margins T` whose options ask for these bounds, on a text of a valid table.
@@ -38,6 +39,20 @@ pub record IsMarginsOf (bounds : Bounds) (table : Table) (call : Call) : Type 0 
   pub options : Options
   pub form : call.words ≡ codes "margins" ∷ path ∷ behind
   pub given : HasOptions 2 taken.bounds options call.words
+  pub asked : bounds_of options ≡ Ok (Some bounds)
+  pub within : AreBounds bounds
+  pub table_told : TellsTable table call.before.sources.first
+  pub undisturbed : NothingFails (one_source entire) call.before call.after
+
+-- A call of `design T` whose options ask for these bounds and this order and for no age, on such a text.
+pub record IsDesignOf (bounds : Bounds) (order : Order) (table : Table) (call : Call) : Type 0 where
+  pub path : List ℕ
+  pub behind : List (List ℕ)
+  pub options : Options
+  pub form : call.words ≡ codes "design" ∷ path ∷ behind
+  pub given : HasOptions 2 taken.design options call.words
+  pub ageless : options.aged ≡ false
+  pub order_is : order_by options ≡ order
   pub asked : bounds_of options ≡ Ok (Some bounds)
   pub within : AreBounds bounds
   pub table_told : TellsTable table call.before.sources.first
@@ -153,6 +168,7 @@ abbrev pub Asks : Call → Asked → Type 0
 Asks call (Check table) = IsOfTable (codes "check") table call
 Asks call (Tolerance table) = IsOfTable (codes "tolerance") table call
 Asks call (Margins bounds table) = IsMarginsOf bounds table call
+Asks call (Design bounds order table) = IsDesignOf bounds order table call
 Asks call (Witness table) = IsOfTable (codes "witness") table call
 Asks call (Tidy table) = IsOfTable (codes "tidy") table call
 Asks call (Plan table) = IsOfTable (codes "plan") table call

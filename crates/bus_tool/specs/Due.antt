@@ -1,6 +1,6 @@
 -- What is due of a command's texts: the outcome, where nothing outside fails and memory is granted. What a group takes is said once,
 -- and a command says its answer to that.
-use Rattle.std.specs.Prelude.{ℕ, Bool, true, false, nat_lt, List, Option, Some, None, Result, Ok, Err, if◌then◌else◌}
+use Rattle.std.specs.Prelude.{ℕ, Bool, true, false, nat_lt, List, [], Option, Some, None, Result, Ok, Err, if◌then◌else◌}
 use Rattle.bus_text.specs.AllOf.{◌>>=◌}
 use Rattle.bus_table.specs.declared.mode.Mode.{Mode}
 use Rattle.bus_table.specs.declared.mode.Mode.TheVariants.{Aperiodic, Periodic}
@@ -17,6 +17,9 @@ use Rattle.bus_cable_plan.specs.declared.planning.CablePlan.{CablePlan}
 use Rattle.bus_cable_plan.specs.declared.planning.CablePlan.TheVariants.{Planned as CablePlanned, Infeasible as NoneBears, Undecided}
 use Rattle.bus_cable_plan.specs.Answers.{plan_for_of, plan_best_of}
 use Rattle.bus_bounds.specs.Bounds.{Bounds}
+use Rattle.bus_made.specs.declared.answer.Answer.{Answer as Design}
+use Rattle.bus_made.specs.declared.answer.Answer.TheVariants.{Made, Infeasible as NotMade, Late}
+use Rattle.bus_made.specs.Answers.{answer_of}
 use Rattle.bus_margins.specs.declared.level.Level.{Level}
 use Rattle.bus_margins.specs.declared.level.Level.TheVariants.{Any, Common, Neither}
 use Rattle.bus_margins.specs.Rooms.{level_of}
@@ -48,7 +51,7 @@ use Rattle.bus_command.specs.declared.outcome.Outcome.TheVariants.{Done, Answere
 use Rattle.bus_command.specs.Due.{text_within, table_due, Inputs, hands_in, traced_by}
 use Rattle.bus_command.specs.Due.{outcome_with}
 use Rattle.bus_command.specs.Stages.{refusal_in}
-use Rattle.bus_tool.specs.Forms.{TableCommand, Check, Tolerance, Tidy, Report, Witness, Plan, PlanFor, Margins, PlanDelay, Bits, Greatest}
+use Rattle.bus_tool.specs.Forms.{TableCommand, Check, Tolerance, Tidy, Report, Witness, Plan, PlanFor, Margins, Design as DesignFor, PlanDelay, Bits, Greatest}
 use Rattle.bus_command.specs.Readers.{text_limit}
 use Rattle.bus_tool.specs.Forms.{MessagesCommand, Observe, Run, Drop, Schedule, TraceCommand, Receive, Audit, Vote, Wave, Diagnose}
 use Rattle.bus_tool.specs.Forms.{wave_limit}
@@ -226,6 +229,12 @@ margins_outcome (ShortCycle least ti) bounds table = Answered
 margins_outcome (SmallGap terminal gap needed) bounds table = Answered
 margins_outcome (NoSync terminal gap needed) bounds table = Answered
 
+-- Yes where a table is made, else no.
+abbrev pub design_outcome : Design → Outcome
+design_outcome (Made made) = Done
+design_outcome (NotMade terminal blame) = Answered
+design_outcome (Late lack) = Answered
+
 -- Yes where nothing is found against the trace, else no.
 abbrev pub audit_outcome : AuditAnswer → Outcome
 audit_outcome (Lawful collided) = Done
@@ -251,6 +260,7 @@ table_answer Witness table = Done
 table_answer Plan table = plan_outcome (plan_of table)
 table_answer (PlanFor delay) table = cable_plan_outcome (cable_plan_of delay table)
 table_answer (Margins bounds) table = margins_outcome (verdict_of table) bounds table
+table_answer (DesignFor bounds order) table = design_outcome (answer_of bounds order [] table)
 
 -- What is answered to a table and hands, or why nothing is.
 abbrev pub messages_answer : MessagesCommand → Table → List Hand → Outcome

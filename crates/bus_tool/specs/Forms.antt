@@ -14,6 +14,8 @@ use Rattle.bus_table.specs.Ranges.{most_ti}
 use Rattle.bus_trace.specs.Limits.{trace_limit}
 use Rattle.bus_vectors.specs.Made.{most_number}
 use Rattle.bus_command.specs.About.{about_of}
+use Rattle.bus_made.specs.declared.order.Order.{Order}
+use Rattle.bus_made.specs.declared.order.Order.TheVariants.{Kept, Free}
 pub use Rattle.bus_options.specs.Bounding.{PastLimit, bounds_of, most_near_delay, most_near_jitter, near_bounds_of}
 pub use Rattle.bus_options.specs.Options.{Line, Options, OptionError, line_of, no_options}
 pub use Rattle.bus_options.specs.Taken.{OptionSet, takes}
@@ -23,7 +25,7 @@ pub use Rattle.bus_tool.specs.declared.forms.Form.{Form}
 pub use Rattle.bus_tool.specs.declared.forms.Form.TheVariants.{OnTable, OnMessages, OnTrace, Unwave, Drill, OnItself}
 pub use Rattle.bus_tool.specs.declared.forms.Form.TheVariants.{Explain, ExplainBeside, Facts, Cable}
 pub use Rattle.bus_tool.specs.declared.forms.TableCommand.{TableCommand}
-pub use Rattle.bus_tool.specs.declared.forms.TableCommand.TheVariants.{Check, Tolerance, Tidy, Report, Witness, Plan, PlanFor, Margins}
+pub use Rattle.bus_tool.specs.declared.forms.TableCommand.TheVariants.{Check, Tolerance, Tidy, Report, Witness, Plan, PlanFor, Margins, Design}
 pub use Rattle.bus_tool.specs.declared.forms.PlanDelay.{PlanDelay}
 pub use Rattle.bus_tool.specs.declared.forms.PlanDelay.TheVariants.{Bits, Greatest}
 pub use Rattle.bus_tool.specs.declared.forms.MessagesCommand.{MessagesCommand}
@@ -65,6 +67,20 @@ abbrev pub margins_by : Result (Option Bounds) PastLimit → Option Form
 margins_by (Ok (Some bounds)) = Some (OnTable (Margins bounds))
 margins_by (Ok None) = None
 margins_by (Err past) = None
+
+-- The order that options ask for.
+abbrev pub order_by : Options → Order
+order_by options = if options.free_order then Free else Kept
+
+-- The design in this order within bounds.
+abbrev pub designed : Order → Result (Option Bounds) PastLimit → Option Form
+designed order (Ok (Some bounds)) = Some (OnTable (Design bounds order))
+designed order (Ok None) = None
+designed order (Err past) = None
+
+-- The design that options ask for; no age can be wished for yet.
+abbrev pub design_by : Options → Option Form
+design_by options = if options.aged then None else designed (order_by options) (bounds_of options)
 
 abbrev pub diagnose_by : Result (Option Bounds) PastLimit → Option Form
 diagnose_by (Ok (Some bounds)) = Some (OnTrace (Diagnose bounds))
@@ -108,11 +124,12 @@ four_plain command horizon =
     else None
 
 -- ---- forms with options
--- `margins T` with bounds, `plan T` with a delay or without; another form of two words.
+-- `margins T` with bounds, `plan T` with a delay or without, `design T` with bounds and an order; another form of two words.
 abbrev pub two_words : (command second : List ℕ) → Options → Option Form
 two_words command second options =
     if bytes_eq command (codes "margins") then given taken.bounds options (margins_by (bounds_of options))
     else if bytes_eq command (codes "plan") then given taken.delay options (plan_by options.delay)
+    else if bytes_eq command (codes "design") then given taken.design options (design_by options)
     else given taken.none options (two_plain command second)
 
 -- `diagnose T R` with bounds; another form of three words.
@@ -165,6 +182,7 @@ table_mode Witness = None
 table_mode Plan = Some Periodic
 table_mode (PlanFor delay) = Some Periodic
 table_mode (Margins bounds) = None
+table_mode (Design bounds order) = Some Aperiodic
 
 -- The mode that a command on messages needs of its table.
 abbrev pub messages_mode : MessagesCommand → Option Mode
@@ -195,6 +213,7 @@ IsWithinDelay Witness = Unit {0}
 IsWithinDelay Plan = Unit {0}
 IsWithinDelay (PlanFor delay) = IsPlannable delay
 IsWithinDelay (Margins bounds) = Unit {0}
+IsWithinDelay (Design bounds order) = Unit {0}
 
 -- The delay of a command on a trace is within its limit.
 abbrev pub IsNear : TraceCommand → Type 0

@@ -28,6 +28,7 @@ pub mod DiagnosisClaims
 pub mod FactsClaims
 pub mod PlanClaims
 pub mod CablePlanClaims
+pub mod DesignClaims
 pub mod DrillClaims
 pub mod ObserveClaims
 pub mod RunClaims

@@ -1,5 +1,5 @@
 -- What `tool` promises of texts that are right, in values.
-use Rattle.std.specs.Prelude.{◌≡◌, ℕ, ◌≤◌, IsTrue, not, List}
+use Rattle.std.specs.Prelude.{◌≡◌, ℕ, ◌≤◌, IsTrue, not, List, []}
 use Rattle.bus_strings.specs.Items.{Item}
 use Rattle.bus_table.specs.Tables.{Table}
 use Rattle.bus_table.specs.Hands.{hands_of}
@@ -23,12 +23,16 @@ use Rattle.bus_wave.specs.Spacing.{IsSpaced}
 use Rattle.bus_command.specs.declared.about.About.{About}
 use Rattle.bus_command.specs.declared.status.Status.{Status}
 use Rattle.bus_command.specs.declared.status.Status.TheVariants.{Done}
-use Rattle.bus_tool.specs.Asked.{Asked, Check, Tolerance, Margins, Witness, Tidy, Plan, PlanFor, PlanBest, Report, Drill, Observe, Run}
+use Rattle.bus_tool.specs.Asked.{Asked, Check, Tolerance, Margins, Design, Witness, Tidy, Plan, PlanFor, PlanBest, Report, Drill, Observe, Run}
 use Rattle.bus_tool.specs.Asked.{Drop, Schedule, Receive, Audit, Diagnose, Vote}
 use Rattle.bus_tool.specs.Asked.{Wave, Unwave, Explain, ExplainBeside, Facts, OnCable, Itself}
 use Rattle.bus_tool.specs.Replies.{Reply, TheVerdict, TheMessages, TheTable, TheReport, TheTrace, TheReceipts, TheAudit, TheFindings}
 use Rattle.bus_tool.specs.Replies.{TheVotes, TheWave, TheExplanation, TheDiagnosis, TheFacts, OfItself, Is, yes_or_no, receipts_of}
 use Rattle.bus_tool.specs.CableClaims.{IsTheTraceOnCable}
+use Rattle.bus_made.specs.declared.order.Order.{Order}
+use Rattle.bus_made.specs.Answers.{answer_of, Means as Designs}
+use Rattle.bus_made.specs.Orders.{ordered, IsFreest}
+use Rattle.bus_tool.specs.DesignClaims.{design_reply, is_made}
 use Rattle.bus_tool.specs.CablePlanClaims.{is_planned, plan_reply}
 use Rattle.bus_tool.specs.DiagnosisClaims.{is_right_beside, TellsBeside}
 use Rattle.bus_tool.specs.DrillClaims.{drill_reply}
@@ -55,6 +59,9 @@ use Rattle.bus_tool.specs.WaveClaims.{HasAWave}
 --   tolerance how much delay it bears, exactly, and whether order comes from any start; or the verdict
 --   margins   of a table and bounds: its margins, of which the level says what order comes on every bus within these, of an aperiodic one
 --             by itself or from a common start, of a periodic one for ever, and how far apart two starts of a sender are; or the verdict
+--   design    of an aperiodic table, bounds and an order: of all tables of its senders in that order that come into order by themselves
+--             on every bus within these the one with the least longest cycle, or that there is none, and what is to blame; no order of them
+--             has a lesser one than the free one
 --   witness   the messages of its witness
 --   tidy      the table
 --   plan      of a periodic table: the planned table, which is accepted, or that no offsets are
@@ -94,6 +101,9 @@ pub record Promises (Asks : Asked → Type 0) (Answers : Status → (Reply → T
   pub margins : (bounds : Bounds) (table : Table) → Asks (Margins bounds table)
       → Answers (yes_or_no (has_margins (verdict_of table) bounds table)) (Is (margins_reply (verdict_of table) bounds table))
       × (table.mode ≡ Aperiodic → TellsMargins bounds table) × (table.mode ≡ Periodic → TellsTurns bounds table)
+  pub design : (bounds : Bounds) (order : Order) (table : Table) → Asks (Design bounds order table) → table.mode ≡ Aperiodic
+      → Answers (yes_or_no (is_made (answer_of bounds order [] table))) (Is (design_reply (answer_of bounds order [] table)))
+      × Designs bounds [] (ordered order table) (answer_of bounds order [] table) × IsFreest bounds table
   pub witness : (table : Table) → Asks (Witness table) → Answers Done (Is (TheMessages (witness_of table)))
   pub tidy : (table : Table) → Asks (Tidy table) → Answers Done (Is (TheTable table))
   pub plan : (table : Table) → Asks (Plan table) → table.mode ≡ Periodic → AnswersPlan Answers table

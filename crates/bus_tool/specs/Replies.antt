@@ -14,6 +14,7 @@ use Rattle.bus_filter.specs.Received.{ReceivedLine, Taker, received_by, takers}
 use Rattle.bus_medium.specs.Delays.{Delays}
 use Rattle.bus_cable.specs.Hearing.{hearings}
 use Rattle.bus_cable.specs.HeardTexts.{terminals}
+use Rattle.bus_made.specs.declared.answer.Answer.{Answer as Design}
 use Rattle.bus_command.specs.declared.about.About.{About}
 use Rattle.bus_command.specs.declared.status.Status.{Status}
 use Rattle.bus_command.specs.declared.status.Status.TheVariants.{Done, Refused}
@@ -29,11 +30,12 @@ pub record Hearing : Type 0 where
   pub marked : List (Entry × Bool)
 
 -- What is answered. `NoOffsets`: no offsets are accepted, or bear the delay, in the table's interval, nor in any below `least`. `Unknown`:
--- it isn't known whether some do; the turns of a round take `least`.
+-- it isn't known whether some do; the turns of a round take `least`. `NoDesign`: no table is made, for what the answer says.
 pub data Reply : Type 0 where
   TheVerdict : (verdict : TableVerdict) → Reply
   TheTolerance : (mode : Mode) (tolerance : Option ℕ) (least most : ℕ) (any_start : Bool) → Reply
   TheMargins : (bounds : Bounds) (table : Table) → Reply
+  NoDesign : (answer : Design) → Reply
   TheMessages : (items : List Item) → Reply
   TheTable : (table : Table) → Reply
   NoOffsets : (least ti : ℕ) → Reply

@@ -1,6 +1,6 @@
 -- What the commands write on `out`, where their outcome is an answer.
 --   hold   how many messages a terminal held when the bus began to run: a line of a trace
-use Rattle.std.specs.Prelude.{◌≡◌, ℕ, List, ◌++◌}
+use Rattle.std.specs.Prelude.{◌≡◌, ℕ, List, [], ◌++◌}
 use Rattle.bus_strings.specs.Canonical.{messages_text}
 use Rattle.bus_table.specs.Tables.{Table, Hand}
 use Rattle.bus_table.specs.Canonical.{table_text}
@@ -29,12 +29,14 @@ use Rattle.bus_command.specs.declared.inputs.Traced.{Traced}
 use Rattle.bus_command.specs.Due.{Inputs, hands_in}
 use Rattle.bus_facts.specs.Facts.{facts_text}
 use Rattle.bus_findings.specs.Texts.{findings_text}
-use Rattle.bus_tool.specs.Forms.{TableCommand, Check, Tolerance, Tidy, Report, Witness, Plan, PlanFor, Margins}
+use Rattle.bus_tool.specs.Forms.{TableCommand, Check, Tolerance, Tidy, Report, Witness, Plan, PlanFor, Margins, Design}
 use Rattle.bus_tool.specs.Forms.{MessagesCommand, Observe, Run, Drop, Schedule, TraceCommand, Receive, Audit, Vote, Wave, Diagnose}
 use Rattle.bus_tool.specs.Due.{CableInputs, cable_hands, cable_plan_of}
 use Rattle.bus_tool.specs.Explanations.{explanation}
 use Rattle.bus_tool.specs.Reports.{report_text}
 use Rattle.bus_tool.specs.PlanTexts.{plan_text, cable_plan_text}
+use Rattle.bus_made.specs.Answers.{answer_of}
+use Rattle.bus_made.specs.Texts.{answer_text as design_text}
 use Rattle.bus_tool.specs.MarginsTexts.{margins_answer}
 use Rattle.bus_tool.specs.Tolerances.{tolerance_text}
 
@@ -78,6 +80,7 @@ table_answer_text Witness table = messages_text (witness_of table)
 table_answer_text Plan table = plan_text (plan_of table)
 table_answer_text (PlanFor delay) table = cable_plan_text (cable_plan_of delay table)
 table_answer_text (Margins bounds) table = margins_answer (verdict_of table) bounds table
+table_answer_text (Design bounds order) table = design_text (answer_of bounds order [] table)
 
 -- The trace text of what is seen of the senders of a table with hands up to a horizon.
 pub record IsObserveText (horizon : ℕ) (table : Table) (hands : List Hand) (text : List ℕ) : Type 0 where

@@ -4,6 +4,7 @@ ghost use Rattle.bus_tool.specs.Forms.{messages_mode, table_mode};
 
 use bus_bounds::Bounds;
 use bus_command::About;
+use bus_made::Order;
 use bus_table::Mode;
 
 /// The delay that a plan is asked for.
@@ -35,6 +36,13 @@ pub enum TableCommand {
     PlanFor {
         /// The delay, or the greatest that any offsets bear.
         delay: PlanDelay,
+    },
+    /// `design T` with bounds: the table that is made of the senders of the aperiodic table in the file `T` for such clocks.
+    Design {
+        /// In nanoseconds and millionths, each within its limit.
+        bounds: Bounds,
+        /// The order in which its senders stand.
+        order: Order,
     },
     /// `margins T` with bounds: how much room the table in the file `T` leaves where clocks aren't exact, and what order comes of it.
     Margins {
@@ -116,6 +124,7 @@ impl TableCommand {
     {
         match self {
             TableCommand::Plan | TableCommand::PlanFor { .. } => Some(Mode::Periodic),
+            TableCommand::Design { .. } => Some(Mode::Aperiodic),
             TableCommand::Check
             | TableCommand::Tolerance
             | TableCommand::Tidy

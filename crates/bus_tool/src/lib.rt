@@ -58,6 +58,7 @@ mod beside;
 mod cable_plan;
 mod check;
 mod command;
+mod design;
 mod diagnose;
 mod drill;
 mod dropout;

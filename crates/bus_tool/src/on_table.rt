@@ -4,6 +4,7 @@ ghost use Rattle.bus_tool.specs.Forms.{OnTable, table_mode, IsWithinDelay};
 
 use crate::cable_plan::plan_for;
 use crate::check::check;
+use crate::design::design;
 use crate::forms::TableCommand;
 use crate::inputs::take_table_for;
 use crate::margins::margins;
@@ -32,6 +33,7 @@ fn answer<K: Sink>(alloc: Global, command: &TableCommand, table: &Table, out: &m
         TableCommand::Plan => plan(alloc, table, out),
         TableCommand::PlanFor { delay } => plan_for(alloc, table, *delay, out),
         TableCommand::Margins { bounds } => margins(table, *bounds, out),
+        TableCommand::Design { bounds, order } => design(alloc, table, *bounds, *order, out),
     }
 }
 

@@ -18,6 +18,7 @@ use bus_feeds::laws::{each_feed_gives, each_line_is_fed, unfed_is_silent};
 use bus_findings::laws::{
     amounts_are_meant, faults_are_just, files_are_unblamed, good_buses_have_no_fault,
 };
+use bus_made::laws::{answers_are_meant, free_is_freest};
 use bus_margins::laws::{any_settles, level_keeps_order};
 use bus_margins_periodic::laws::{leads_follow_one, turns_keep_turns};
 use bus_medium::laws::{one_cable_list, one_lawful_list};
@@ -95,6 +96,8 @@ pub fn tool<S: Source, K: Sink, E: Sink>(
     data_are_in_time();
     some_never_part();
     any_settles();
+    answers_are_meant();
+    free_is_freest();
     level_keeps_order();
     turns_keep_turns();
     leads_follow_one();

@@ -10,6 +10,7 @@ ghost use Rattle.bus_vectors.specs.Made.{most_number};
 use crate::forms::{Form, MessagesCommand, PlanDelay, TableCommand, TraceCommand};
 use bus_cable_plan::MOST_DELAY as MOST_PLAN_DELAY;
 use bus_command::about_of;
+use bus_made::Order;
 use bus_options::{OptionSet, Options, bounds_of, line_of, near_bounds_of};
 use bus_strings::limits::HORIZON_LIMIT;
 use bus_text::plain_decimal;
@@ -165,6 +166,32 @@ fn margins_by(options: &Options) -> Option<Form>
     }
 }
 
+/// The order that options ask for.
+fn order_by(options: &Options) -> Order
+    ensures { result ≡ forms.order_by options.now }
+{
+    if options.free_order {
+        Order::Free
+    } else {
+        Order::Kept
+    }
+}
+
+/// The design for the bounds that options ask for. No age can be wished for yet.
+fn design_by(options: &Options) -> Option<Form>
+    ensures form { result ≡ forms.design_by options.now }
+    ensures limits { IfSome result IsWithinLimits }
+{
+    if options.aged {
+        return None;
+    }
+    let order = order_by(options);
+    match bounds_of(options) {
+        Ok(Some(bounds)) => Some(Form::OnTable(TableCommand::Design { bounds, order })),
+        Ok(None) | Err(_) => None,
+    }
+}
+
 /// What is found within the bounds that options ask for.
 fn diagnose_by(options: &Options) -> Option<Form>
     ensures form { result ≡ forms.diagnose_by (forms.near_bounds_of options.now) }
@@ -185,6 +212,8 @@ fn two_words(command: &str, second: &[u8], options: &Options) -> Option<Form>
         given(OptionSet::BOUNDS, options, margins_by(options))
     } else if command == "plan" {
         given(OptionSet::DELAY, options, plan_by(options.delay))
+    } else if command == "design" {
+        given(OptionSet::DESIGN, options, design_by(options))
     } else {
         given(OptionSet::NONE, options, two_plain(command, second))
     }

@@ -30,6 +30,11 @@ returns-clause-keeps g c =
         plans = c.answers_are_right.ensures.plan;
         best = c.answers_are_right.ensures.best;
       };
+      design = record {
+        text_stands = c.canonical_text_reads_as_its_table.ensures.stands;
+        meant = c.answers_are_meant.ensures;
+        freest = c.free_is_freest.ensures;
+      };
       wave = record {
         texts = texts;
         passes = c.waves_tell_traces.ensures.passes;
@@ -139,6 +144,10 @@ returns-clause-spells g c =
       text_stands = c.canonical_text_reads_as_its_table.ensures.stands;
       plans = c.answers_are_right.ensures.plan;
       best = c.answers_are_right.ensures.best;
+    }) (record {
+      text_stands = c.canonical_text_reads_as_its_table.ensures.stands;
+      meant = c.answers_are_meant.ensures;
+      freest = c.free_is_freest.ensures;
     }) (record {
       texts = texts;
       passes = c.waves_tell_traces.ensures.passes;
