@@ -143,7 +143,7 @@ ignored() {
   local words same=0
   cat on_cable.trace >followed
   printf '%b' "$1" >>followed
-  for words in svg 'svg 0 150' cycles 'cycles 0 150'; do
+  for words in svg 'svg --to 150bt' cycles 'cycles --to 150bt'; do
     behind_trace idle_listener.table on_cable.trace $words >.alone || return
     behind_trace idle_listener.table followed $words >.followed || return
     cmp -s .followed .alone && same=$((same + 1))

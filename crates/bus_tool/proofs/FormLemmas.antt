@@ -10,7 +10,9 @@ use Rattle.std.proofs.lemmas.Bool.Decides.{nat_tests}
 use Rattle.std.proofs.lemmas.List.{length-map, length-take-le}
 use Rattle.bus_text.specs.Numbers.{is_plain_decimal}
 use Rattle.bus_options.proofs.PlainLaws.{plain_line}
-use Rattle.bus_options.specs.Options.{ArePlain, Line, Options, is_option, line_of, no_options}
+use Rattle.bus_options.specs.declared.line.Line.{Line}
+use Rattle.bus_options.specs.declared.options.Options.{Options}
+use Rattle.bus_options.specs.Options.{ArePlain, is_option, line_of, no_options}
 use Rattle.bus_command.specs.Words.{words_of}
 use Rattle.bus_tool.specs.Forms.{Form, form_by, form_of, form_with, four_words, one_word, three_words, two_words}
 

@@ -76,8 +76,8 @@ file past its limit, and 9 for a schedule past its limit. A line on standard err
 on, and for a no of run and drop. What explain and facts find wrong with a text is their answer,
 and a no, and a fault that diagnose finds.
 
-docs/RULES.md has the rules of the bus, docs/FORMATS.md the texts, lines and statuses, docs/CLAIMS.md
-what is proved; examples/ has tables to try.
+docs/RULES.md has the rules of the bus, docs/FORMATS.md the texts, lines and statuses,
+docs/CLAIMS.md what is proved; examples/ has tables to try.
 ";
 
 /// The version of the program, and those of the texts that it reads and writes.
