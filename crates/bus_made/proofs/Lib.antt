@@ -6,3 +6,4 @@ mod Freed
 mod Freest
 mod Lacking
 mod Late
+mod Meant

@@ -1,8 +1,10 @@
 -- What is answered, by computation, and what it means.
-use Rattle.std.specs.Prelude.{◌≡◌, ℕ, zero, suc, ◌≤◌, List, [], ◌∷◌, Option, Some, None}
-use Rattle.bus_bounds.specs.Bounds.{Bounds}
+use Rattle.std.specs.Prelude.{◌≡◌, ℕ, zero, suc, ◌≤◌, List, [], ◌∷◌, Option, Some, None, IsTrue}
+use Rattle.bus_bounds.specs.Bounds.{Bounds, most_clocks}
 use Rattle.bus_table.specs.Tables.{Sender, Table}
 use Rattle.bus_table.specs.Turns.{turn_order}
+use Rattle.bus_table.specs.Valid.{is_valid}
+use Rattle.bus_table.specs.declared.mode.Mode.TheVariants.{Aperiodic}
 use Rattle.bus_margins.specs.Rooms.{level_of}
 use Rattle.bus_margins.specs.declared.level.Level.TheVariants.{Any}
 use Rattle.bus_best.specs.declared.blame.Blame.{Blame}
@@ -69,3 +71,9 @@ abbrev pub Means : Bounds → List Wish → Table → Answer → Type 0
 Means bounds wishes table (Made made) = IsMade bounds table made × AreMet bounds made wishes
 Means bounds wishes table (Infeasible terminal blame) = AreNoneFor bounds table × BlameMeans bounds (speakers_of table) blame
 Means bounds wishes table (Late lack) = IsLate bounds table wishes lack
+
+-- What is computed of a valid aperiodic table means that.
+abbrev pub AnswersAreMeant : Type 0
+AnswersAreMeant =
+    (bounds : Bounds) (order : Order) (wishes : List Wish) (table : Table) → bounds.clocks ≤ most_clocks → IsTrue (is_valid table)
+    → table.mode ≡ Aperiodic → Means bounds wishes (ordered order table) (answer_of bounds order wishes table)
