@@ -19,7 +19,7 @@ use Rattle.bus_plan.specs.Answers.{plan_of}
 use Rattle.bus_cable_plan.specs.declared.planning.CablePlan.{CablePlan}
 use Rattle.bus_made.specs.declared.answer.Answer.{Answer as MadeAnswer}
 use Rattle.bus_made.specs.declared.answer.Answer.TheVariants.{Made, Infeasible as NotMade, Late}
-use Rattle.bus_made.specs.Answers.{answer_of}
+use Rattle.bus_made.specs.Answers.{answer_of as design_answer}
 use Rattle.bus_cable_plan.specs.declared.planning.CablePlan.TheVariants.{Planned as CablePlanned, Infeasible as NoneBears, Undecided}
 use Rattle.bus_plan.specs.declared.planning.PlanAnswer.{PlanAnswer}
 use Rattle.bus_plan.specs.declared.planning.PlanAnswer.TheVariants.{Planned, Infeasible}
@@ -97,7 +97,7 @@ table_answered Witness table = refl
 table_answered Plan table = written_plan (plan_of table)
 table_answered (PlanFor delay) table = written_cable_plan (cable_plan_of delay table)
 table_answered (Margins bounds) table = written_margins (verdict_of table) bounds table
-table_answered (Design bounds order) table = written_design (answer_of bounds order [] table)
+table_answered (Design bounds order) table = written_design (design_answer bounds order [] table)
 
 -- ---- their stages
 pub answer_late : (o : Outcome) → kind_of o ≡ Answer → 2 ≤ stage_of (kind_of o)

@@ -17,7 +17,7 @@ use Rattle.bus_plan.specs.Answers.{plan_of}
 use Rattle.bus_cable_plan.specs.declared.planning.CablePlan.{CablePlan}
 use Rattle.bus_made.specs.declared.answer.Answer.{Answer as MadeAnswer}
 use Rattle.bus_made.specs.declared.answer.Answer.TheVariants.{Made, Infeasible as NotMade, Late}
-use Rattle.bus_made.specs.Answers.{answer_of}
+use Rattle.bus_made.specs.Answers.{answer_of as design_answer}
 use Rattle.bus_cable_plan.specs.declared.planning.CablePlan.TheVariants.{Planned as CablePlanned, Infeasible as NoneBears, Undecided}
 use Rattle.bus_plan.specs.declared.planning.PlanAnswer.{PlanAnswer}
 use Rattle.bus_plan.specs.declared.planning.PlanAnswer.TheVariants.{Planned, Infeasible}
@@ -105,7 +105,7 @@ table_answer_cause IsEnd Witness first second table = tt
 table_answer_cause IsEnd Plan first second table = plan_cause IsEnd first second (plan_of table)
 table_answer_cause IsEnd (PlanFor delay) first second table = cable_plan_cause IsEnd first second (cable_plan_of delay table)
 table_answer_cause IsEnd (Margins bounds) first second table = margins_cause IsEnd first second (verdict_of table) bounds table
-table_answer_cause IsEnd (Design bounds order) first second table = design_cause IsEnd first second (answer_of bounds order [] table)
+table_answer_cause IsEnd (Design bounds order) first second table = design_cause IsEnd first second (design_answer bounds order [] table)
 
 -- ---- a table and messages
 -- the texts of inputs that were read, of which this holds

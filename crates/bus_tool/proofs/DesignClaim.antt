@@ -10,7 +10,7 @@ use Rattle.bus_table.specs.declared.mode.Mode.TheVariants.{Aperiodic}
 use Rattle.bus_made.specs.declared.answer.Answer.{Answer}
 use Rattle.bus_made.specs.declared.answer.Answer.TheVariants.{Made, Infeasible, Late}
 use Rattle.bus_made.specs.declared.order.Order.{Order}
-use Rattle.bus_made.specs.Answers.{answer_of, AnswersAreMeant, Means}
+use Rattle.bus_made.specs.Answers.{answer_of as design_answer, AnswersAreMeant, Means}
 use Rattle.bus_made.specs.Orders.{ordered, FreeIsFreest, IsFreest}
 use Rattle.bus_made.specs.Texts.{answer_text}
 use Rattle.bus_command.specs.Outside.{Call}
@@ -48,17 +48,17 @@ stands laws bounds table (Infeasible terminal blame) m = tt
 stands laws bounds table (Late lack) m = tt
 
 pub design_stands : DesignLaws → (call : Call) (bounds : Bounds) (order : Order) (table : Table) → IsDesignOf bounds order table call
-    → table.mode ≡ Aperiodic → StandsWhereMade (answer_of bounds order [] table)
+    → table.mode ≡ Aperiodic → StandsWhereMade (design_answer bounds order [] table)
 design_stands laws call bounds order table h mode =
-    stands laws bounds (ordered order table) (answer_of bounds order [] table)
+    stands laws bounds (ordered order table) (design_answer bounds order [] table)
     (laws.meant bounds order [] table h.within.clocks h.table_told.valid mode)
 
 pub design_claim : ReadLaws → DesignLaws → (call : Call) (outcome : Outcome) (bounds : Bounds) (order : Order) (table : Table) → Acts call outcome
     → IsDesignOf bounds order table call → table.mode ≡ Aperiodic
-    → Answers call (status_of outcome) (yes_or_no (is_made (answer_of bounds order [] table))) (Is (design_reply (answer_of bounds order [] table)))
-    × Means bounds [] (ordered order table) (answer_of bounds order [] table) × IsFreest bounds table
+    → Answers call (status_of outcome) (yes_or_no (is_made (design_answer bounds order [] table))) (Is (design_reply (design_answer bounds order [] table)))
+    × Means bounds [] (ordered order table) (design_answer bounds order [] table) × IsFreest bounds table
 design_claim texts laws call outcome bounds order table acts h mode =
-    let answer = answer_of bounds order [] table in (
+    let answer = design_answer bounds order [] table in (
       with_status call (status_of outcome) _ _ (Is (design_reply answer)) (design_status answer)
           (table_answers texts (Design bounds order) call outcome table (IsTextOf (Is (design_reply answer))) (design_form bounds order table call h) mode
           (λ text is. is_text (design_reply answer) (answer_text answer) text (reply_stands answer (design_stands laws call bounds order table h mode)) (design_same answer) is)

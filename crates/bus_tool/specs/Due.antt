@@ -19,7 +19,7 @@ use Rattle.bus_cable_plan.specs.Answers.{plan_for_of, plan_best_of}
 use Rattle.bus_bounds.specs.Bounds.{Bounds}
 use Rattle.bus_made.specs.declared.answer.Answer.{Answer as Design}
 use Rattle.bus_made.specs.declared.answer.Answer.TheVariants.{Made, Infeasible as NotMade, Late}
-use Rattle.bus_made.specs.Answers.{answer_of}
+use Rattle.bus_made.specs.Answers.{answer_of as design_answer}
 use Rattle.bus_margins.specs.declared.level.Level.{Level}
 use Rattle.bus_margins.specs.declared.level.Level.TheVariants.{Any, Common, Neither}
 use Rattle.bus_margins.specs.Rooms.{level_of}
@@ -260,7 +260,7 @@ table_answer Witness table = Done
 table_answer Plan table = plan_outcome (plan_of table)
 table_answer (PlanFor delay) table = cable_plan_outcome (cable_plan_of delay table)
 table_answer (Margins bounds) table = margins_outcome (verdict_of table) bounds table
-table_answer (DesignFor bounds order) table = design_outcome (answer_of bounds order [] table)
+table_answer (DesignFor bounds order) table = design_outcome (design_answer bounds order [] table)
 
 -- What is answered to a table and hands, or why nothing is.
 abbrev pub messages_answer : MessagesCommand → Table → List Hand → Outcome

@@ -30,7 +30,7 @@ use Rattle.bus_tool.specs.Replies.{Reply, TheVerdict, TheMessages, TheTable, The
 use Rattle.bus_tool.specs.Replies.{TheVotes, TheWave, TheExplanation, TheDiagnosis, TheFacts, OfItself, Is, yes_or_no, receipts_of}
 use Rattle.bus_tool.specs.CableClaims.{IsTheTraceOnCable}
 use Rattle.bus_made.specs.declared.order.Order.{Order}
-use Rattle.bus_made.specs.Answers.{answer_of, Means as Designs}
+use Rattle.bus_made.specs.Answers.{answer_of as design_answer, Means as Designs}
 use Rattle.bus_made.specs.Orders.{ordered, IsFreest}
 use Rattle.bus_tool.specs.DesignClaims.{design_reply, is_made}
 use Rattle.bus_tool.specs.CablePlanClaims.{is_planned, plan_reply}
@@ -102,8 +102,8 @@ pub record Promises (Asks : Asked → Type 0) (Answers : Status → (Reply → T
       → Answers (yes_or_no (has_margins (verdict_of table) bounds table)) (Is (margins_reply (verdict_of table) bounds table))
       × (table.mode ≡ Aperiodic → TellsMargins bounds table) × (table.mode ≡ Periodic → TellsTurns bounds table)
   pub design : (bounds : Bounds) (order : Order) (table : Table) → Asks (Design bounds order table) → table.mode ≡ Aperiodic
-      → Answers (yes_or_no (is_made (answer_of bounds order [] table))) (Is (design_reply (answer_of bounds order [] table)))
-      × Designs bounds [] (ordered order table) (answer_of bounds order [] table) × IsFreest bounds table
+      → Answers (yes_or_no (is_made (design_answer bounds order [] table))) (Is (design_reply (design_answer bounds order [] table)))
+      × Designs bounds [] (ordered order table) (design_answer bounds order [] table) × IsFreest bounds table
   pub witness : (table : Table) → Asks (Witness table) → Answers Done (Is (TheMessages (witness_of table)))
   pub tidy : (table : Table) → Asks (Tidy table) → Answers Done (Is (TheTable table))
   pub plan : (table : Table) → Asks (Plan table) → table.mode ≡ Periodic → AnswersPlan Answers table

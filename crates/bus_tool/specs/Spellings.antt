@@ -12,7 +12,7 @@ use Rattle.bus_cable.specs.HeardTexts.{heard_text}
 use Rattle.bus_cable_plan.specs.Answers.{plan_for_of, plan_best_of}
 use Rattle.bus_bounds.specs.Bounds.{Bounds}
 use Rattle.bus_made.specs.declared.order.Order.{Order}
-use Rattle.bus_made.specs.Answers.{answer_of}
+use Rattle.bus_made.specs.Answers.{answer_of as design_answer}
 use Rattle.bus_tool.specs.DesignClaims.{StandsWhereMade}
 use Rattle.bus_tool.specs.Answering.{receipts_text, hearings_text, reply_text}
 use Rattle.bus_tool.specs.Asked.{Asked, Tolerance, Design, PlanFor, PlanBest, Wave}
@@ -35,7 +35,7 @@ pub record Spellings (Asks : Asked → Type 0) : Type 0 where
   pub plan_for : (d : ℕ) (table : Table) → Asks (PlanFor d table) → table.mode ≡ Periodic → StandsWherePlanned (plan_for_of d table)
   pub plan_best : (table : Table) → Asks (PlanBest table) → table.mode ≡ Periodic → StandsWherePlanned (plan_best_of table)
   pub design : (bounds : Bounds) (order : Order) (table : Table) → Asks (Design bounds order table) → table.mode ≡ Aperiodic
-      → StandsWhereMade (answer_of bounds order [] table)
+      → StandsWhereMade (design_answer bounds order [] table)
   pub wave : (table : Table) (trace : Recording) → Asks (Wave table trace) → HasAWaveText table trace
   pub received : (table : Table) (list : List Entry) → receipts_text (receipts_of table list) ≡ received_text table list
   pub heard : (table : Table) (cable : Cable) (list : List Entry)

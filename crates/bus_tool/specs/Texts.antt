@@ -35,7 +35,7 @@ use Rattle.bus_tool.specs.Due.{CableInputs, cable_hands, cable_plan_of}
 use Rattle.bus_tool.specs.Explanations.{explanation}
 use Rattle.bus_tool.specs.Reports.{report_text}
 use Rattle.bus_tool.specs.PlanTexts.{plan_text, cable_plan_text}
-use Rattle.bus_made.specs.Answers.{answer_of}
+use Rattle.bus_made.specs.Answers.{answer_of as design_answer}
 use Rattle.bus_made.specs.Texts.{answer_text as design_text}
 use Rattle.bus_tool.specs.MarginsTexts.{margins_answer}
 use Rattle.bus_tool.specs.Tolerances.{tolerance_text}
@@ -80,7 +80,7 @@ table_answer_text Witness table = messages_text (witness_of table)
 table_answer_text Plan table = plan_text (plan_of table)
 table_answer_text (PlanFor delay) table = cable_plan_text (cable_plan_of delay table)
 table_answer_text (Margins bounds) table = margins_answer (verdict_of table) bounds table
-table_answer_text (Design bounds order) table = design_text (answer_of bounds order [] table)
+table_answer_text (Design bounds order) table = design_text (design_answer bounds order [] table)
 
 -- The trace text of what is seen of the senders of a table with hands up to a horizon.
 pub record IsObserveText (horizon : ℕ) (table : Table) (hands : List Hand) (text : List ℕ) : Type 0 where

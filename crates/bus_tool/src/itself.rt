@@ -22,6 +22,10 @@ what each terminal receives, and audits recorded traces. What it says is proved.
                           in aperiodic mode between power-ups, its order stands
   bus629 margins T BOUNDS  tell what order the table in T keeps on real clocks within the bounds,
                           and with how much room
+  bus629 design T BOUNDS [--order free]  make an aperiodic table of the senders in T that comes into
+                          order by itself on real clocks within the bounds, with the least longest
+                          cycle: in their turn order, or in the one that asks least; or tell which
+                          rule can't be kept
   bus629 tidy T           write the table in T as a text without comments, one space between fields
   bus629 witness T        messages with which the table in the file T fails, where it is refused:
                           try them with observe
@@ -60,8 +64,8 @@ BOUNDS are options, one or more, in any order behind the files; one that isn't g
 
   --delay D    the greatest delay between two terminals, up to 1ms; in diagnose between a terminal
                and the monitor, up to 9bt; in plan up to 128000bt
-  --jitter J   by how much a timer is off, and in margins a message, up to 100us; in diagnose, where
-               the rounding of moments and the sway of delays count too, up to 255bt
+  --jitter J   by how much a timer is off, and in margins and design a message, up to 100us; in
+               diagnose, where the rounding of moments and the sway of delays count too, up to 255bt
   --clocks P   by how much an oscillator is off, up to 1000ppm, which are millionths; in diagnose a
                terminal's and the monitor's together
 
