@@ -7,6 +7,7 @@ _bus629() {
     'explain:tell in sentences what the verdict of the table in T means, or what is wrong with its text, and what to change'
     'tolerance:tell how much delay an accepted table bears'
     'margins:tell what order the table in T keeps on real clocks within the bounds, and with how much room'
+    'design:make an aperiodic table of the senders in T that comes into order by itself on real clocks within the bounds, with the least longest cycle'
     'tidy:write the table in T as a text without comments, one space between fields'
     'witness:messages with which the table in the file T fails, where it is refused'
     'plan:choose the offsets of the periodic table in T'
@@ -29,10 +30,11 @@ _bus629() {
   )
   case $CURRENT:$words[2] in
     2:*) _describe command commands ;;
-    3:check|3:explain|3:tolerance|3:margins|3:tidy|3:witness|3:plan|3:report|3:facts|3:run|3:drop|3:schedule|3:observe|3:cable|3:receive|3:audit|3:diagnose|3:vote|3:wave|3:unwave) _files ;;
+    3:check|3:explain|3:tolerance|3:margins|3:design|3:tidy|3:witness|3:plan|3:report|3:facts|3:run|3:drop|3:schedule|3:observe|3:cable|3:receive|3:audit|3:diagnose|3:vote|3:wave|3:unwave) _files ;;
     4:plan) compadd -- best --delay ;;
     4:explain|4:run|4:drop|4:schedule|4:observe|4:cable|4:receive|4:audit|4:diagnose|4:vote|4:wave|4:unwave) _files ;;
     *:margins) compadd -- --delay --jitter --clocks ;;
+    *:design) compadd -- --delay --jitter --clocks --order ;;
     *:plan) compadd -- --delay ;;
     *:diagnose) compadd -- --delay --jitter --clocks ;;
   esac
