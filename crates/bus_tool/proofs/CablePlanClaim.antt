@@ -1,5 +1,5 @@
 -- What is claimed of `plan` with a delay.
-use Rattle.std.specs.Prelude.{◌≡◌, ◌≢◌, ◌⊎◌, ℕ, ◌≤◌, true, ◌&&◌, ◌==◌, nat_le, IsTrue, List, [], Some, None, codes, length}
+use Rattle.std.specs.Prelude.{◌≡◌, ◌≢◌, ◌⊎◌, ℕ, ◌≤◌, true, ◌&&◌, ◌==◌, nat_le, IsTrue, List, [], Some, None, codes, length, ◌∷◌}
 use Rattle.std.proofs.Common.{arith, sym, ap, ◌∙◌, subst, cond, inl, inr}
 use Rattle.std.proofs.lemmas.Bool.{cases_Bool}
 use Rattle.std.proofs.lemmas.Bool.Decides.{nat_tests}
