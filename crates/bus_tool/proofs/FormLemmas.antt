@@ -1,5 +1,5 @@
 -- The words of a form.
-use Rattle.std.specs.Prelude.{◌≡◌, ◌≢◌, ℕ, ◌≤◌, Bool, true, false, ◌&&◌, nat_eq, take, List, [], ◌∷◌, None, Ok, Some, length, slice_index_or, String}
+use Rattle.std.specs.Prelude.{◌≡◌, ◌≢◌, ℕ, ◌≤◌, Bool, true, false, ◌&&◌, nat_eq, take, List, [], ◌∷◌, None, Ok, length, slice_index_or, String}
 use Rattle.std.specs.Char.{is_ascii_digit}
 use Rattle.std.specs.declared.alloc.Global.{Global}
 use Rattle.std.specs.String.{string_bytes}
@@ -14,7 +14,7 @@ use Rattle.bus_options.specs.declared.line.Line.{Line}
 use Rattle.bus_options.specs.declared.options.Options.{Options}
 use Rattle.bus_options.specs.Options.{ArePlain, is_option, line_of, no_options}
 use Rattle.bus_command.specs.Words.{words_of}
-use Rattle.bus_tool.specs.Forms.{Form, form_by, form_of, form_with, four_words, one_word, three_words, two_words}
+use Rattle.bus_tool.specs.Forms.{form_by, form_of, form_with, four_words, one_word, three_words, two_words}
 
 -- ---- plain words by their number
 take_none : {X : Type 0} (xs : List X) → take 0 xs ≡ []
