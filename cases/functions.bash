@@ -9,7 +9,7 @@ offsets() { sed -n 's/.* AT //p' | paste -sd ' '; }
 # Of facts, their margins; and the level by margins of a table where oscillators are off by up to 50 millionths.
 levels() {
   grep -o '"margins":{[^}]*}'
-  bus629 margins "$1" 0 0 50 | sed -n '1s/MARGINS [a-z]* \([a-z]*\) .*/\1/p'
+  bus629 margins "$1" --clocks 50ppm | sed -n '1s/MARGINS [a-z]* \([a-z]*\) .*/\1/p'
 }
 # Of a save file, its moments and the groups that are open.
 opened() { awk '/^\*|^\[timestart/ { print } before == "@800200" { print } { before = $0 }'; }
@@ -143,7 +143,7 @@ ignored() {
   local words same=0
   cat on_cable.trace >followed
   printf '%b' "$1" >>followed
-  for words in svg 'svg 0 150' cycles 'cycles 0 150'; do
+  for words in svg 'svg --to 150bt' cycles 'cycles --to 150bt'; do
     behind_trace idle_listener.table on_cable.trace $words >.alone || return
     behind_trace idle_listener.table followed $words >.followed || return
     cmp -s .followed .alone && same=$((same + 1))
@@ -203,15 +203,15 @@ two_words() {
 in_order() {
   awk -v order="$*" 'BEGIN { n = split(order, place); for (i = 1; i <= n; i++) at[place[i]] = i } /^SENDER/ { $6 = at[$2] } { print }' \
     five_terminals_periodic.table >.ordered
-  bus629 plan .ordered 5
+  bus629 plan .ordered --delay 5bt
 }
 # rooms_of_intervals TI ..: what margins of them tells at these intervals.
 rooms_of_intervals() {
   local ti
   in_order 1 2 3 4 5 >/dev/null
   for ti in "$@"; do
-    bus629 plan <(sed "s/TI 4000/TI $ti/" .ordered) 5 >.planned
-    echo "TI $ti" $(bus629 margins .planned 1000 125 100 | awk '/ sync| order| begin/ { print $2, $NF }')
+    bus629 plan <(sed "s/TI 4000/TI $ti/" .ordered) --delay 5bt >.planned
+    echo "TI $ti" $(bus629 margins .planned --delay 1000ns --jitter 125ns --clocks 100ppm | awk '/ sync| order| begin/ { print $2, $NF }')
   done
 }
 # rooms_of_order TERMINAL ..: the level and the room of order where terminal 3 has 4, 9 or 10 words at least.
@@ -219,6 +219,6 @@ rooms_of_order() {
   local least
   for least in 4 9 10; do
     in_order "$@" | sed "s/103 1 4 12/103 1 $least 12/" >.padded
-    echo "$*: $least" $(bus629 margins .padded 1000 125 100 | awk '/^MARGINS/ { print $3 } / order/ { print $NF }')
+    echo "$*: $least" $(bus629 margins .padded --delay 1000ns --jitter 125ns --clocks 100ppm | awk '/^MARGINS/ { print $3 } / order/ { print $NF }')
   done
 }

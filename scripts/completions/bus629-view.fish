@@ -11,3 +11,24 @@ complete -c bus629-view -n 'test (count (commandline -opc)) -eq 1' -a --help -d 
 complete -c bus629-view -n 'test (count (commandline -opc)) -eq 1' -a --version -d 'the version of the program, and of each text that it reads'
 complete -c bus629-view -n '__fish_seen_subcommand_from vcd wires timers gtkw svg cycles page; and test (count (commandline -opc)) -eq 2' -F
 complete -c bus629-view -n '__fish_seen_subcommand_from vcd wires timers gtkw svg cycles; and test (count (commandline -opc)) -eq 3' -F
+complete -c bus629-view -n '__fish_seen_subcommand_from vcd' -l from -x
+complete -c bus629-view -n '__fish_seen_subcommand_from vcd' -l to -x
+complete -c bus629-view -n '__fish_seen_subcommand_from wires' -l from -x
+complete -c bus629-view -n '__fish_seen_subcommand_from wires' -l to -x
+complete -c bus629-view -n '__fish_seen_subcommand_from timers' -l from -x
+complete -c bus629-view -n '__fish_seen_subcommand_from timers' -l to -x
+complete -c bus629-view -n '__fish_seen_subcommand_from gtkw' -l from -x
+complete -c bus629-view -n '__fish_seen_subcommand_from gtkw' -l to -x
+complete -c bus629-view -n '__fish_seen_subcommand_from svg' -l delay -x
+complete -c bus629-view -n '__fish_seen_subcommand_from svg' -l jitter -x
+complete -c bus629-view -n '__fish_seen_subcommand_from svg' -l clocks -x
+complete -c bus629-view -n '__fish_seen_subcommand_from svg' -l from -x
+complete -c bus629-view -n '__fish_seen_subcommand_from svg' -l to -x
+complete -c bus629-view -n '__fish_seen_subcommand_from cycles' -l delay -x
+complete -c bus629-view -n '__fish_seen_subcommand_from cycles' -l jitter -x
+complete -c bus629-view -n '__fish_seen_subcommand_from cycles' -l clocks -x
+complete -c bus629-view -n '__fish_seen_subcommand_from cycles' -l from -x
+complete -c bus629-view -n '__fish_seen_subcommand_from cycles' -l to -x
+complete -c bus629-view -n '__fish_seen_subcommand_from page' -l delay -x
+complete -c bus629-view -n '__fish_seen_subcommand_from page' -l jitter -x
+complete -c bus629-view -n '__fish_seen_subcommand_from page' -l clocks -x

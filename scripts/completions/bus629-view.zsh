@@ -17,6 +17,13 @@ _bus629_view() {
     2:*) _describe command commands ;;
     3:vcd|3:wires|3:timers|3:gtkw|3:svg|3:cycles|3:page) _files ;;
     4:vcd|4:wires|4:timers|4:gtkw|4:svg|4:cycles) _files ;;
+    *:vcd) compadd -- --from --to ;;
+    *:wires) compadd -- --from --to ;;
+    *:timers) compadd -- --from --to ;;
+    *:gtkw) compadd -- --from --to ;;
+    *:svg) compadd -- --delay --jitter --clocks --from --to ;;
+    *:cycles) compadd -- --delay --jitter --clocks --from --to ;;
+    *:page) compadd -- --delay --jitter --clocks ;;
   esac
 }
 _bus629_view "$@"

@@ -61,8 +61,9 @@ ends_within (x ∷ xs) sent so_far (inl same) =
 ends_within (x ∷ xs) sent so_far (inr i) = ends_within xs sent (max so_far x.end) i
 
 pub open_hides_none : PlacesRise → PlacesLieWithin → OpenHidesNone
-open_hides_none rise within table survey counts row sent is one order =
+open_hides_none rise within table survey counts row x is one order =
     let page : Page = page_of table survey counts in
+    let sent : Sent = x.sent in
     let end : sent.end ≤ end_of_all row.sents = ends_within row.sents sent 0 one in
     let last : ℕ = max (end_of_all row.sents) page.seen.to in
     let first : pixel page row.begin sent.moment ≤ pixel page row.begin sent.end = pixel_rises page row.begin sent.moment sent.end rise is order in

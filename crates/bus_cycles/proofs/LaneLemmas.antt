@@ -16,7 +16,7 @@ use Rattle.bus_shapes.specs.declared.sent.Sent.{Sent}
 use Rattle.bus_cycles.specs.Lanes.{lane_from, lane_of, lanes_of}
 use Rattle.bus_cycles.specs.Laws.{NeighboursDiffer}
 use Rattle.bus_cycles.specs.Pages.{page_of}
-use Rattle.bus_cycles.specs.RowTexts.{shade}
+use Rattle.bus_cycles.specs.RowTexts.{Shaded, shade, slot_of}
 use Rattle.bus_cycles.specs.Surveys.{Survey}
 
 -- ---- looking for a lane
@@ -82,22 +82,17 @@ lane_told table survey counts facts k s sent at by =
     ap (λ n. get_or (lanes_of table) n 0) by ∙ get_or-map-range_with_len (lane_of table) 0 256 s.number s.number 0 (omega arith) (let e : 0 + s.number ≡ s.number = omega arith in e)
     ∙ lane_is table facts k s at
 
-shade_is : (table : Table) (survey : Survey) (counts : Counts) (facts : TableFacts table) (k : ℕ) (s : Sender) (sent : Sent)
-    → slice_get (turn_order table) k ≡ Some s → sent.terminal ≡ s.number → sent.garbled ≡ false → shade (page_of table survey counts) sent ≡ k % 2
-shade_is table survey counts facts k s sent at by plain =
-    ap (λ b. cond b (2 + get_or (lanes_of table) sent.terminal 0 % 3) (get_or (lanes_of table) sent.terminal 0 % 2)) plain
+shade_is : (table : Table) (survey : Survey) (counts : Counts) (facts : TableFacts table) (k begin : ℕ) (s : Sender) (earlier : List Shaded) (sent : Sent)
+    → slice_get (turn_order table) k ≡ Some s → sent.terminal ≡ s.number → sent.garbled ≡ false
+    → shade (page_of table survey counts) begin earlier sent ≡ k % 2
+shade_is table survey counts facts k begin s earlier sent at by plain =
+    ap (λ b. cond b (2 + slot_of (page_of table survey counts) begin earlier sent) (get_or (lanes_of table) sent.terminal 0 % 2)) plain
     ∙ ap (λ n. n % 2) (lane_told table survey counts facts k s sent at by)
 
-pub slot_is : (table : Table) (survey : Survey) (counts : Counts) (facts : TableFacts table) (k : ℕ) (s : Sender) (sent : Sent)
-    → slice_get (turn_order table) k ≡ Some s → sent.terminal ≡ s.number → sent.garbled ≡ true → shade (page_of table survey counts) sent ≡ 2 + k % 3
-slot_is table survey counts facts k s sent at by garbled =
-    ap (λ b. cond b (2 + get_or (lanes_of table) sent.terminal 0 % 3) (get_or (lanes_of table) sent.terminal 0 % 2)) garbled
-    ∙ ap (λ n. 2 + n % 3) (lane_told table survey counts facts k s sent at by)
-
 pub neighbours_differ : NeighboursDiffer
-neighbours_differ table survey counts k a b one other valid at_one at_other by_one by_other plain_one plain_other same =
+neighbours_differ table survey counts k begin a b before before' one other valid at_one at_other by_one by_other plain_one plain_other same =
     let facts : TableFacts table = valid_facts table valid in
-    let first = shade_is table survey counts facts k a one at_one by_one plain_one in
-    let second = shade_is table survey counts facts (k + 1) b other at_other by_other plain_other in
+    let first = shade_is table survey counts facts k begin a before one at_one by_one plain_one in
+    let second = shade_is table survey counts facts (k + 1) begin b before' other at_other by_other plain_other in
     let equal : k % 2 ≡ (k + 1) % 2 = sym first ∙ same ∙ second in
     absurd (omega arith)

@@ -9,14 +9,18 @@ use Rattle.bus_table.specs.Tables.{Sender}
 use Rattle.bus_pen.specs.Classes.{class_name}
 use Rattle.bus_pen.specs.declared.area.Area.{Area}
 use Rattle.bus_pen.specs.declared.class.Class.{Class}
-use Rattle.bus_pen.specs.declared.class.Class.TheVariants.{Breach, Fault, Garbled, Other, Tick, Unobserved}
+use Rattle.bus_pen.specs.declared.class.Class.TheVariants.{Breach, Small, Tick}
+use Rattle.bus_pen.specs.declared.legend.Sample.{Sample}
+use Rattle.bus_pen.specs.Legends.{sample_text}
 use Rattle.bus_shapes.specs.declared.sent.Sent.{Sent}
 use Rattle.bus_shapes.specs.declared.told.Told.TheVariants.{Audit, OnCable, Findings}
-use Rattle.bus_pen.specs.Shapes.{box_text}
+use Rattle.bus_pen.specs.Shapes.{box_text, words_end, words_text}
 use Rattle.bus_cycles.specs.Cuts.{Seen, is_whole, seen_of}
 use Rattle.bus_cycles.specs.CyclesTexts.{begins, breach_at, breach_in_row, breach_text, page_in, survey_in}
 use Rattle.bus_cycles.specs.Dues.{due_line, due_over, due_text, rows_of_due}
 use Rattle.bus_cycles.specs.Faults.{has_fault}
+use Rattle.bus_cycles.specs.declared.legend.TheConstants as the
+use Rattle.bus_cycles.specs.declared.measures.TheConstants.{LEGEND_LINE as legend_line, LEGEND_TOP as legend_top}
 use Rattle.bus_cycles.specs.Listings.{has_line, is_breach_drawn}
 use Rattle.bus_cycles.specs.Pages.{Page}
 use Rattle.bus_cycles.specs.PictureLaws.{BreachIsListed, CutAreListed, DuesAreListed, FaultsAreListed, GarbledAreListed, IsDrawnCut, IsDrawnWith, PlainAreListed}
@@ -42,6 +46,16 @@ box_some class area =
     front_some _ (codes "/>\n") (front_some _ (codes "\"") (front_some _ (decimal area.height) (front_some _ (codes "\" height=\"")
     (front_some _ (decimal area.width) (front_some _ (codes "\" width=\"") (front_some _ (decimal area.top) (front_some _ (codes "\" y=\"")
     (front_some _ (decimal area.left) (front_some _ (codes "\" x=\"") (opened (codes "<rect class=\"") (class_name class) (omega arith)))))))))))
+
+back_some : (a b : List ℕ) → b ≢ [] → a ++ b ≢ []
+back_some [] b some = some
+back_some (x ∷ xs) b some = λ e. absurd cc
+
+note_some : (samples : List Sample) (left : ℕ) (words : List ℕ) → flat_map (sample_text legend_top) samples ++ words_text Small left legend_line words ≢ []
+note_some samples left words =
+    back_some (flat_map (sample_text legend_top) samples) (words_text Small left legend_line words)
+    (front_some _ words_end (front_some _ words (front_some _ (codes "\">") (front_some _ (decimal legend_line) (front_some _ (codes "\" y=\"")
+    (front_some _ (decimal left) (front_some _ (codes "\" x=\"") (opened (codes "<text class=\"") (class_name Small) (omega arith)))))))))
 
 -- ---- tests of lists
 pub any_from : {X : Type 0} (test : X → Bool) (xs : List X) (x : X) → In x xs → test x ≡ true → list_any test xs ≡ true
@@ -107,7 +121,7 @@ plain_are_listed window told table trace =
     let test : Row → Bool = λ (row : Row). is_drawn row.place && has_plain row in
     let is : survey.plain ≡ list_any test list =
     told_any (λ (s : Survey). s.plain) test (cycle_of table) (seen_of (counts window trace)) (breach_in window told) (λ s r. refl) list (nothing (cycle_of table)) in
-    both (drawn_where survey.plain _ (front_some _ _ (box_some Other _)))
+    both (drawn_where survey.plain _ (note_some the.PLAIN.0.now the.PLAIN.1 the.PLAIN.2.now))
     (subst (λ b. (b ≡ true) ↔ IsDrawnWith (λ (sent : Sent). not sent.garbled) list) (sym is) (drawn_with (λ (sent : Sent). not sent.garbled) list))
 
 pub garbled_are_listed : GarbledAreListed
@@ -117,14 +131,14 @@ garbled_are_listed window told table trace =
     let test : Row → Bool = λ (row : Row). is_drawn row.place && has_garbled row in
     let is : survey.garbled ≡ list_any test list =
     told_any (λ (s : Survey). s.garbled) test (cycle_of table) (seen_of (counts window trace)) (breach_in window told) (λ s r. refl) list (nothing (cycle_of table)) in
-    both (drawn_where survey.garbled _ (front_some _ _ (box_some Garbled _)))
+    both (drawn_where survey.garbled _ (note_some the.GARBLED.0.now the.GARBLED.1 the.GARBLED.2.now))
     (subst (λ b. (b ≡ true) ↔ IsDrawnWith (λ (sent : Sent). sent.garbled) list) (sym is) (drawn_with (λ (sent : Sent). sent.garbled) list))
 
 pub faults_are_listed : FaultsAreListed
 faults_are_listed window (Audit answer) table trace = (λ some. some refl, λ none. absurd none)
 faults_are_listed window (OnCable garbled) table trace = (λ some. some refl, λ none. absurd none)
 faults_are_listed window (Findings bounds judgements garbled) table trace =
-    both (drawn_where _ _ (front_some _ _ (box_some Fault _))) (drawn_with (has_fault judgements.items) (rows table window trace.list))
+    both (drawn_where _ _ (note_some the.FAULT.0.now the.FAULT.1 the.FAULT.2.now)) (drawn_with (has_fault judgements.items) (rows table window trace.list))
 
 pub cut_are_listed : CutAreListed
 cut_are_listed window told table trace =
@@ -135,7 +149,7 @@ cut_are_listed window told table trace =
     let test : Row → Bool = λ (row : Row). is_drawn row.place && not (is_whole cycle seen (extent_of row)) in
     let is : survey.cut ≡ list_any test list =
     told_any (λ (s : Survey). s.cut) test cycle seen (breach_in window told) (λ s r. refl) list (nothing cycle) in
-    both (drawn_where survey.cut _ (front_some _ _ (box_some Unobserved _)))
+    both (drawn_where survey.cut _ (note_some the.CUT.0.now the.CUT.1 the.CUT.2.now))
     (subst (λ b. (b ≡ true) ↔ IsDrawnCut (page_in window told table trace) list) (sym is) (
       λ e.
           let r = any_to test list e in
@@ -181,7 +195,7 @@ pub dues_are_listed : DuesAreListed
 dues_are_listed window told table trace =
     let page : Page = page_in window told table trace in
     let moments : List ℕ = begins window table trace in
-    both (drawn_where _ _ (front_some _ _ (box_some Tick _)))
+    both (drawn_where _ _ (note_some the.DUE.0.now the.DUE.1 the.DUE.2.now))
     (some_of (due_text page trace.holds moments) (has_line page trace.holds moments) table.senders
     (λ (sender : Sender). line_some page sender.at (rows_of_due page trace.holds moments sender)))
 
@@ -205,5 +219,5 @@ breach_is_listed window told table trace =
     let survey : Survey = survey_in window told table trace in
     let unmarked : breach_in window told ≡ None → survey.marked ≡ None =
     λ none. ap (λ (m : Option ℕ). (told_of cycle seen m (shown window trace.list)).marked) none ∙ none_marked cycle seen (shown window trace.list) in
-    both (drawn_where _ _ (front_some _ _ (box_some Breach _)))
+    both (drawn_where _ _ (note_some the.BREACH.0.now the.BREACH.1 the.BREACH.2.now))
     (drawn_breach (page_in window told table trace) (breach_in window told) survey.marked unmarked)

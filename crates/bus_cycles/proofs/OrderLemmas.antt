@@ -9,11 +9,11 @@ use Rattle.bus_shapes.specs.Frames.{tail_text}
 use Rattle.bus_cycles.specs.CyclesTexts.{below_text, breach_text, marks_text, page_in, survey_in, under_rows}
 use Rattle.bus_cycles.specs.Faults.{faults_text}
 use Rattle.bus_cycles.specs.Loads.{loads_text}
-use Rattle.bus_cycles.specs.Laws.{IsPartOf, drawing_of, kept}
+use Rattle.bus_cycles.specs.Laws.{IsPartOf, kept}
 use Rattle.bus_cycles.specs.Pages.{Page}
 use Rattle.bus_cycles.specs.PictureLaws.{MarksHideNoBox}
 use Rattle.bus_cycles.specs.Rows.{Row, extent_of, rows}
-use Rattle.bus_cycles.specs.RowTexts.{boxes, ending_text, is_due, row_text, rows_text, walk_text}
+use Rattle.bus_cycles.specs.RowTexts.{Shaded, boxes, drawing_of, ending_text, is_due, row_text, rows_text, walk_text}
 use Rattle.bus_cycles.specs.Surveys.{Survey, breach_in}
 use Rattle.bus_cycles.proofs.DrawnLemmas.{kept_drawn}
 use Rattle.bus_cycles.proofs.MarkedLemmas.{part_front, part_in, part_of}
@@ -28,25 +28,26 @@ due_in_own true sent e = e
 due_in_own false sent e = ap not e
 
 -- the box of one that isn't left out is in that walk
-in_walk : (page : Page) (all : List Row) (row : Row) (sent : Sent) (b : Bool) → In row all → In sent (kept page row.begin [] row.sents)
-    → sent.garbled ≡ b → IsPartOf (drawing_of page row.place row.begin sent) (walk_text page b all)
-in_walk page all row sent b one own e =
-    let drawing : List ℕ = drawing_of page row.place row.begin sent in
-    let due : List Sent = filter (is_due b) (kept page row.begin [] row.sents) in
+in_walk : (page : Page) (all : List Row) (row : Row) (x : Shaded) (b : Bool) → In row all → In x (kept page row.begin [] row.sents)
+    → x.sent.garbled ≡ b → IsPartOf (drawing_of page row.place row.begin x) (walk_text page b all)
+in_walk page all row x b one own e =
+    let drawing : List ℕ = drawing_of page row.place row.begin x in
+    let due_of : Shaded → Bool = λ y. is_due b y.sent in
+    let due : List Shaded = filter due_of (kept page row.begin [] row.sents) in
     let here : IsPartOf drawing (flat_map (drawing_of page row.place row.begin) due) =
-    part_of (drawing_of page row.place row.begin) due sent (in_filter (is_due b) (kept page row.begin [] row.sents) sent own (due_in_own b sent e)) in
+    part_of (drawing_of page row.place row.begin) due x (in_filter due_of (kept page row.begin [] row.sents) x own (due_in_own b x.sent e)) in
     let box : IsPartOf drawing (boxes page b row.place row.begin [] row.sents) =
     subst (IsPartOf drawing) (sym (kept_drawn page b row.place row.begin row.sents)) here in
     part_in drawing (row_text page b row) (walk_text page b all)
     (part_front drawing (boxes page b row.place row.begin [] row.sents) (ending_text page b (extent_of row)) box)
     (part_of (row_text page b) all row one)
 
-in_rows : (page : Page) (all : List Row) (row : Row) (sent : Sent) (b : Bool) → In row all → In sent (kept page row.begin [] row.sents)
-    → sent.garbled ≡ b → IsPartOf (drawing_of page row.place row.begin sent) (rows_text page all)
-in_rows page all row sent true one own e =
-    part_behind (drawing_of page row.place row.begin sent) (walk_text page false all) (walk_text page true all) (in_walk page all row sent true one own e)
-in_rows page all row sent false one own e =
-    part_front (drawing_of page row.place row.begin sent) (walk_text page false all) (walk_text page true all) (in_walk page all row sent false one own e)
+in_rows : (page : Page) (all : List Row) (row : Row) (x : Shaded) (b : Bool) → In row all → In x (kept page row.begin [] row.sents)
+    → x.sent.garbled ≡ b → IsPartOf (drawing_of page row.place row.begin x) (rows_text page all)
+in_rows page all row x true one own e =
+    part_behind (drawing_of page row.place row.begin x) (walk_text page false all) (walk_text page true all) (in_walk page all row x true one own e)
+in_rows page all row x false one own e =
+    part_front (drawing_of page row.place row.begin x) (walk_text page false all) (walk_text page true all) (in_walk page all row x false one own e)
 
 -- what comes behind a front, put together
 behind_front : (a b c d e f g : List ℕ) → a ++ b ++ c ++ d ++ e ++ f ++ g ≡ a ++ (b ++ c ++ d ++ e ++ f ++ g)
@@ -58,17 +59,17 @@ behind_front a b c d e f g =
     ∙ append_assoc a (b ++ c ++ d ++ e ++ f) g
 
 pub marks_hide_no_box : MarksHideNoBox
-marks_hide_no_box frame window verdict told table trace row sent one own =
+marks_hide_no_box frame window verdict told table trace row x one own =
     let page : Page = page_in window told table trace in
     let survey : Survey = survey_in window told table trace in
     let all : List Row = rows table window trace.list in
-    let drawing : List ℕ = drawing_of page row.place row.begin sent in
+    let drawing : List ℕ = drawing_of page row.place row.begin x in
     let loads : List ℕ = loads_text page trace.list all in
     let below : List ℕ = below_text page in
     let breach : List ℕ = breach_text page (breach_in window told) survey.marked in
     let faults : List ℕ = faults_text page told all in
     let front : List ℕ = under_rows frame page survey window told table trace ++ marks_text page table verdict in
-    let a : IsPartOf drawing (rows_text page all) = in_rows page all row sent sent.garbled one own refl in
+    let a : IsPartOf drawing (rows_text page all) = in_rows page all row x x.sent.garbled one own refl in
     let b = part_front drawing (rows_text page all) loads a in
     let c = part_front drawing (rows_text page all ++ loads) below b in
     let d = part_front drawing (rows_text page all ++ loads ++ below) breach c in

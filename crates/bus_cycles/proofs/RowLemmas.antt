@@ -20,7 +20,7 @@ use Rattle.bus_trace.specs.Windows.{Window}
 use Rattle.bus_cycles.specs.Laws.{HatchedAreDrawnLast, HatchedAreGarbled, RowsAreAPartition, RowsAreIntervals}
 use Rattle.bus_cycles.specs.Rows.{Cycle, Row, begin_in, cycle_of, interval_of, is_new, is_new_in, origin_offset_of, row_at, rows, rows_from, rows_of, with_sent}
 use Rattle.bus_cycles.specs.Pages.{Page}
-use Rattle.bus_cycles.specs.RowTexts.{class_of, garbled_class, shade}
+use Rattle.bus_cycles.specs.RowTexts.{Shaded, class_of, garbled_class, shade, slot_of}
 use Rattle.bus_shapes.specs.Sending.{sent_of, sents}
 use Rattle.bus_shapes.specs.SendingLaws.{IsToldOf}
 use Rattle.bus_shapes.proofs.SendingLaws.{told_from}
@@ -78,20 +78,21 @@ hatched_at width false slot zero low = refl
 hatched_at width false slot (suc zero) low = refl
 hatched_at width false slot (suc (suc lane)) low = absurd (omega arith)
 
-hatched_of : (page : Page) (sent : Sent) (width : ℕ) → is_hatched (class_of width (shade page sent)) ≡ sent.garbled
-hatched_of page sent width =
+hatched_of : (page : Page) (begin : ℕ) (earlier : List Shaded) (sent : Sent) (width : ℕ)
+    → is_hatched (class_of width (shade page begin earlier sent)) ≡ sent.garbled
+hatched_of page begin earlier sent width =
     let lane : get_or page.lanes sent.terminal 0 % 2 < 2 = omega arith in
-    hatched_at width sent.garbled (get_or page.lanes sent.terminal 0 % 3) (get_or page.lanes sent.terminal 0 % 2) lane
+    hatched_at width sent.garbled (slot_of page begin earlier sent) (get_or page.lanes sent.terminal 0 % 2) lane
 
 pub hatched : HatchedAreGarbled
-hatched page table window list row sent width i j =
+hatched page table window list row earlier sent width i j =
     let t = told table window list row sent i j in
     let mark : sent.garbled ≡ garbled list sent.at = ap (λ (s : Sent). s.garbled) t.told in
-    (t, hatched_of page sent width ∙ mark)
+    (t, hatched_of page row.begin earlier sent width ∙ mark)
 
 pub drawn_last : HatchedAreDrawnLast
-drawn_last page true sent width due = hatched_of page sent width ∙ due
-drawn_last page false sent width due = hatched_of page sent width ∙ none sent.garbled due where
+drawn_last page true begin earlier sent width due = hatched_of page begin earlier sent width ∙ due
+drawn_last page false begin earlier sent width due = hatched_of page begin earlier sent width ∙ none sent.garbled due where
   none : (b : Bool) → not b ≡ true → b ≡ false
   none true e = absurd cc
   none false e = refl

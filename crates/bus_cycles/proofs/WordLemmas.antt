@@ -1,6 +1,7 @@
 -- The word of a breach stands behind all boxes.
 use Rattle.std.proofs.Common.{ℕ, ◌+◌, ◌-◌, ◌*◌, ◌/◌, ◌≤◌, max, arith}
 use Rattle.bus_pen.specs.Laws.{PlacesLieWithin, PlacesRise}
+use Rattle.bus_shapes.specs.declared.sent.Sent.{Sent}
 use Rattle.bus_pen.specs.Scales.{IsScale, place}
 use Rattle.bus_cycles.specs.MarkLaws.{BreachWordHidesNone}
 use Rattle.bus_cycles.specs.Pages.{Page, page_of}
@@ -29,8 +30,9 @@ all_of : (left right edge : ℕ) → left ≤ edge → right ≤ edge → left +
 all_of left right edge h k = omega arith
 
 pub word_hides_none : PlacesRise → PlacesLieWithin → BreachWordHidesNone
-word_hides_none rise within table survey counts row begin sent is =
+word_hides_none rise within table survey counts row begin x is =
     let page : Page = page_of table survey counts in
+    let sent : Sent = x.sent in
     let a : left_of page begin sent ≤ 8200 = on_pixel page begin sent.moment within is in
     let b : pixel page begin sent.end ≤ 8200 = on_pixel page begin sent.end within is in
     let c : left_of page begin sent + (right_of page begin sent - left_of page begin sent) ≤ 8210 =

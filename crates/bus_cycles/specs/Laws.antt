@@ -1,6 +1,6 @@
 -- What follows of the definitions. The contracts of `laws` say that each of these holds.
-use Rattle.std.specs.Prelude.{◌≡◌, ◌≢◌, ◌⊎◌, ◌↔◌, ℕ, ◌+◌, ◌<◌, ◌≤◌, Bool, true, false, not, IsTrue, List, [], ◌∷◌, ◌++◌, length}
-use Rattle.std.specs.Prelude.{slice_get, filter, Option, Some, if◌then◌else◌, ⊤}
+use Rattle.std.specs.Prelude.{◌≡◌, ◌≢◌, ◌⊎◌, ◌↔◌, ℕ, ◌+◌, ◌%◌, ◌<◌, ◌≤◌, Bool, true, false, not, IsTrue, List, [], ◌∷◌, ◌++◌, length}
+use Rattle.std.specs.Prelude.{◌&&◌, nat_le, slice_get, filter, Option, Some, if◌then◌else◌, ⊤}
 use Rattle.std.specs.List.{AllByRecursion, count_by, flat_map, sum_by}
 use Rattle.bus_strings.specs.Members.{In}
 use Rattle.bus_strings.specs.Messages.{Entry}
@@ -18,11 +18,12 @@ use Rattle.bus_pen.specs.Scales.{IsScale}
 use Rattle.bus_shapes.specs.SendingLaws.{IsToldOf}
 use Rattle.bus_trace.specs.Windows.{Window}
 use Rattle.bus_cycles.specs.Loads.{busy_of, whole_of}
-use Rattle.bus_cycles.specs.Pages.{Page, page_of, scale_of, top_of}
+use Rattle.bus_cycles.specs.Measures.{shades, slots}
+use Rattle.bus_cycles.specs.Pages.{Page, page_of, scale_of}
 use Rattle.bus_cycles.specs.Cuts.{Seen, is_cut_before, is_cut_behind, is_whole}
 use Rattle.bus_cycles.specs.Rows.{Cycle, Extent, Row, cycle_of, extent_of, interval_of, rows}
-use Rattle.bus_cycles.specs.RowTexts.{area_of, before_area, before_text, behind_area, behind_text, boxes, class_of, is_due, is_left_out}
-use Rattle.bus_cycles.specs.RowTexts.{left_of, right_of, sent_text, shade, where_drawn}
+use Rattle.bus_cycles.specs.RowTexts.{Shaded, all_shaded, area_of, before_area, before_text, behind_area, behind_text, boxes, class_of}
+use Rattle.bus_cycles.specs.RowTexts.{drawing_of, is_due, is_free, is_left_out, lane_in, left_of, right_of, shade, shaded}
 use Rattle.bus_cycles.specs.Sents.{shown}
 use Rattle.bus_cycles.specs.Surveys.{Survey, counts, last_end_of, survey_of}
 
@@ -37,12 +38,12 @@ abbrev pub RowsAreAPartition : Type 0
 RowsAreAPartition =
     (table : Table) (window : Window) (list : List Entry) → flat_map (λ (row : Row). row.sents) (rows table window list) ≡ shown window list
 
--- Each transmission of a row is an entry of the list, and is hatched exactly where that is garbled.
+-- Each transmission of a row is an entry of the list, and is hatched, whatever is drawn before it, exactly where that is garbled.
 abbrev pub HatchedAreGarbled : Type 0
 HatchedAreGarbled =
-    (page : Page) (table : Table) (window : Window) (list : List Entry) (row : Row) (sent : Sent) (width : ℕ)
+    (page : Page) (table : Table) (window : Window) (list : List Entry) (row : Row) (earlier : List Shaded) (sent : Sent) (width : ℕ)
     → In row (rows table window list) → In sent row.sents
-    → IsToldOf list sent × (is_hatched (class_of width (shade page sent)) ≡ garbled list sent.at)
+    → IsToldOf list sent × (is_hatched (class_of width (shade page row.begin earlier sent)) ≡ garbled list sent.at)
 
 -- In periodic mode each transmission of a row begins in the interval that begins with the row.
 abbrev pub RowsAreIntervals : Type 0
@@ -85,58 +86,73 @@ RowsAscend =
 -- A walk draws hatched boxes exactly where it is that for what is garbled, so that all of these are drawn after all others.
 abbrev pub HatchedAreDrawnLast : Type 0
 HatchedAreDrawnLast =
-    (page : Page) (garbled : Bool) (sent : Sent) (width : ℕ) → IsTrue (is_due garbled sent)
-    → is_hatched (class_of width (shade page sent)) ≡ garbled
+    (page : Page) (garbled : Bool) (begin : ℕ) (earlier : List Shaded) (sent : Sent) (width : ℕ) → IsTrue (is_due garbled sent)
+    → is_hatched (class_of width (shade page begin earlier sent)) ≡ garbled
 
 -- Each transmission is due in exactly one of the two walks.
 abbrev pub EachIsDueOnce : Type 0
 EachIsDueOnce = (sent : Sent) → is_due true sent ≡ not (is_due false sent)
 
--- The transmissions that aren't left out of a row that has these.
-abbrev pub kept : Page → ℕ → List Sent → List Sent → List Sent
+-- The transmissions that aren't left out of a row that has these, each with its shade.
+abbrev pub kept : Page → ℕ → List Shaded → List Sent → List Shaded
 kept page begin earlier [] = []
 kept page begin earlier (sent ∷ sents) =
     if is_left_out page begin earlier sent
-    then kept page begin (earlier ++ sent ∷ []) sents
-    else sent ∷ kept page begin (earlier ++ sent ∷ []) sents
-
--- What is drawn of a transmission.
-abbrev pub drawing_of : Page → ℕ → ℕ → Sent → List ℕ
-drawing_of page row begin sent = where_drawn row (sent_text page (area_of page row begin sent) sent)
+    then kept page begin (earlier ++ shaded page begin earlier sent ∷ []) sents
+    else shaded page begin earlier sent ∷ kept page begin (earlier ++ shaded page begin earlier sent ∷ []) sents
 
 -- A walk draws of a row exactly those that aren't left out and are due in it, one behind the other.
 abbrev pub KeptAreDrawn : Type 0
 KeptAreDrawn =
     (page : Page) (garbled : Bool) (row begin : ℕ) (sents : List Sent)
-    → boxes page garbled row begin [] sents ≡ flat_map (drawing_of page row begin) (filter (is_due garbled) (kept page begin [] sents))
+    → boxes page garbled row begin [] sents
+    ≡ flat_map (drawing_of page row begin) (filter (λ (x : Shaded). is_due garbled x.sent) (kept page begin [] sents))
 
 -- Two senders that follow one another in turn order have different shades.
 abbrev pub NeighboursDiffer : Type 0
 NeighboursDiffer =
-    (table : Table) (survey : Survey) (counts : Counts) (k : ℕ) (a b : Sender) (one other : Sent) → IsTrue (is_valid table)
-    → slice_get (turn_order table) k ≡ Some a → slice_get (turn_order table) (k + 1) ≡ Some b
+    (table : Table) (survey : Survey) (counts : Counts) (k begin : ℕ) (a b : Sender) (before before' : List Shaded) (one other : Sent)
+    → IsTrue (is_valid table) → slice_get (turn_order table) k ≡ Some a → slice_get (turn_order table) (k + 1) ≡ Some b
     → one.terminal ≡ a.number → other.terminal ≡ b.number → one.garbled ≡ false → other.garbled ≡ false
-    → shade (page_of table survey counts) one ≢ shade (page_of table survey counts) other
+    → shade (page_of table survey counts) begin before one ≢ shade (page_of table survey counts) begin before' other
 
 -- One area lies above another.
 abbrev pub LiesAbove : Area → Area → Type 0
 LiesAbove one other = one.top + one.height ≤ other.top
 
--- A terminal keeps its slot: its garbled transmissions lie at the same height in all rows, and so do those that aren't.
+-- A terminal keeps its slot, by its lane, wherever that is free: so its garbled transmissions lie at the same height in all rows.
 abbrev pub SlotsAreKept : Type 0
 SlotsAreKept =
-    (page : Page) (row row' begin begin' : ℕ) (one other : Sent) → one.terminal ≡ other.terminal → one.garbled ≡ other.garbled
-    → ((area_of page row begin one).top + top_of page row' ≡ (area_of page row' begin' other).top + top_of page row)
-    × ((area_of page row begin one).height ≡ (area_of page row' begin' other).height)
+    (page : Page) (begin : ℕ) (earlier : List Shaded) (sent : Sent) → sent.garbled ≡ true
+    → IsTrue (is_free page begin earlier (left_of page begin sent) (lane_in page sent % slots))
+    → shade page begin earlier sent ≡ 2 + lane_in page sent % slots
 
--- Of any three senders, one behind the other in turn order, no two boxes of what is garbled meet in a row.
+-- Two boxes of a row don't meet: one lies above the other, or begins where the other has ended.
+abbrev pub LieApart : Area → Area → Type 0
+LieApart one other = LiesAbove one other ⊎ (LiesAbove other one ⊎ (one.left + one.width ≤ other.left))
+
+-- Whether a garbled transmission of a row reaches behind a place.
+abbrev pub reaches_behind : Page → ℕ → ℕ → Shaded → Bool
+reaches_behind page begin left x = nat_le 2 x.shade && nat_le (left + 1) (right_of page begin x.sent)
+
+-- At most two garbled ones of these reach behind where a transmission begins.
+abbrev pub AreFew : Page → ℕ → List Shaded → Sent → Type 0
+AreFew page begin earlier sent = count_by (reaches_behind page begin (left_of page begin sent)) earlier ≤ 2
+
+-- A garbled transmission isn't left out, and meets none of the garbled ones that come before it in its row, as long as at most two of these
+-- reach behind its beginning: so of three that collide each is seen, whoever sends them.
 abbrev pub ThreeLieApart : Type 0
 ThreeLieApart =
-    (table : Table) (survey : Survey) (counts : Counts) (row begin k m : ℕ) (a b : Sender) (one other : Sent) → IsTrue (is_valid table)
-    → k < m → m < k + 3 → slice_get (turn_order table) k ≡ Some a → slice_get (turn_order table) m ≡ Some b
-    → one.terminal ≡ a.number → other.terminal ≡ b.number → one.garbled ≡ true → other.garbled ≡ true
-    → LiesAbove (area_of (page_of table survey counts) row begin one) (area_of (page_of table survey counts) row begin other)
-    ⊎ LiesAbove (area_of (page_of table survey counts) row begin other) (area_of (page_of table survey counts) row begin one)
+    (table : Table) (survey : Survey) (counts : Counts) (row begin : ℕ) (earlier : List Shaded) (other : Shaded) (sent : Sent)
+    → sent.garbled ≡ true → In other earlier → 2 ≤ other.shade → other.shade < shades
+    → AreFew (page_of table survey counts) begin earlier sent
+    → LieApart (area_of (page_of table survey counts) row begin other)
+    (area_of (page_of table survey counts) row begin (shaded (page_of table survey counts) begin earlier sent))
+
+abbrev pub ThreeAreKept : Type 0
+ThreeAreKept =
+    (page : Page) (begin : ℕ) (earlier : List Shaded) (sent : Sent) → sent.garbled ≡ true → AreFew page begin earlier sent
+    → is_left_out page begin earlier sent ≡ false
 
 -- No whole row has a last end below the least that is told, or above the greatest.
 abbrev pub LastEndsAreOfRows : Type 0
@@ -184,12 +200,12 @@ CutAreOpen =
 -- Where a row is drawn open it hides none of its boxes: it is so left of them, and right of them.
 abbrev pub OpenHidesNone : Type 0
 OpenHidesNone =
-    (table : Table) (survey : Survey) (counts : Counts) (row : Row) (sent : Sent) → IsScale (scale_of survey) → In sent row.sents
-    → sent.moment ≤ sent.end
+    (table : Table) (survey : Survey) (counts : Counts) (row : Row) (x : Shaded) → IsScale (scale_of survey) → In x.sent row.sents
+    → x.sent.moment ≤ x.sent.end
     → ((before_area (page_of table survey counts) row.place).left + (before_area (page_of table survey counts) row.place).width
-    ≤ (area_of (page_of table survey counts) row.place row.begin sent).left)
-    × ((area_of (page_of table survey counts) row.place row.begin sent).left
-    + (area_of (page_of table survey counts) row.place row.begin sent).width
+    ≤ (area_of (page_of table survey counts) row.place row.begin x).left)
+    × ((area_of (page_of table survey counts) row.place row.begin x).left
+    + (area_of (page_of table survey counts) row.place row.begin x).width
     ≤ (behind_area (page_of table survey counts) (extent_of row)).left)
 
 -- In aperiodic mode a whole row has its cycle from the first transmission to the last: the first comes a synchronization gap or more behind
@@ -230,8 +246,8 @@ pub record IsCovered (page : Page) (begin : ℕ) (earlier : List Sent) (sent : S
   pub other : Sent
   pub back : List Sent
   pub earlier_are : earlier ≡ front ++ other ∷ back
-  pub stays : is_left_out page begin front other ≡ false
-  pub same : shade page other ≡ shade page sent
+  pub stays : is_left_out page begin (all_shaded page begin [] front) other ≡ false
+  pub same : shade page begin (all_shaded page begin [] front) other ≡ shade page begin (all_shaded page begin [] earlier) sent
   pub left : left_of page begin other ≤ left_of page begin sent
   pub right : right_of page begin sent ≤ right_of page begin other
 
@@ -240,4 +256,4 @@ abbrev pub LeftOutAreCovered : Type 0
 LeftOutAreCovered =
     (table : Table) (window : Window) (trace : Recording) (page : Page) (row : Row) (earlier later : List Sent) (sent : Sent)
     → IsTrace trace → IsScale page.scale → In row (rows table window trace.list) → row.sents ≡ earlier ++ sent ∷ later
-    → is_left_out page row.begin earlier sent ≡ true → IsCovered page row.begin earlier sent
+    → is_left_out page row.begin (all_shaded page row.begin [] earlier) sent ≡ true → IsCovered page row.begin earlier sent

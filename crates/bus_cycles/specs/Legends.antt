@@ -1,6 +1,7 @@
 -- The legend: what boxes and lines mean, as far as there are such ones.
 use Rattle.std.specs.Prelude.{ℕ, Bool, List, ◌++◌}
-use Rattle.bus_pen.specs.Legends.{Sample, note_text}
+use Rattle.bus_pen.specs.Legends.{note_text}
+use Rattle.bus_pen.specs.declared.legend.Sample.{Sample}
 use Rattle.bus_cycles.specs.Listings.{Listed}
 use Rattle.bus_cycles.specs.declared.legend.TheConstants as the
 use Rattle.bus_cycles.specs.declared.measures.TheConstants.{LEGEND_LINE as legend_line, LEGEND_TOP as legend_top}

@@ -23,22 +23,23 @@ use Rattle.bus_cycles.specs.declared.measures.TheConstants.{BREACH_LEFT as breac
 use Rattle.bus_cycles.specs.Pages.{Page, page_of, scale_of}
 use Rattle.bus_cycles.specs.Cuts.{Seen}
 use Rattle.bus_cycles.specs.Rows.{Extent, Row, cycle_of, extent_of, rows, takes}
-use Rattle.bus_cycles.specs.RowTexts.{area_of}
+use Rattle.bus_cycles.specs.Measures.{shades}
+use Rattle.bus_cycles.specs.RowTexts.{Shaded, area_of}
 use Rattle.bus_cycles.specs.Sents.{shown}
 use Rattle.bus_cycles.specs.Surveys.{Survey, is_drawn, survey_of}
 
--- The two parts of the line of a breach in a row lie above and below the box of each transmission of the row.
+-- The two parts of the line of a breach in a row lie above and below the box of each transmission of the row, of whatever shade.
 abbrev pub BreachHidesNone : Type 0
 BreachHidesNone =
-    (table : Table) (survey : Survey) (counts : Counts) (row begin left : ℕ) (sent : Sent)
-    → LiesAbove (part_above (page_of table survey counts) left row) (area_of (page_of table survey counts) row begin sent)
-    × LiesAbove (area_of (page_of table survey counts) row begin sent) (part_below (page_of table survey counts) left row)
+    (table : Table) (survey : Survey) (counts : Counts) (row begin left : ℕ) (x : Shaded) → x.shade < shades
+    → LiesAbove (part_above (page_of table survey counts) left row) (area_of (page_of table survey counts) row begin x)
+    × LiesAbove (area_of (page_of table survey counts) row begin x) (part_below (page_of table survey counts) left row)
 
 -- The word of a breach begins behind the box of each transmission of each row.
 abbrev pub BreachWordHidesNone : Type 0
 BreachWordHidesNone =
-    (table : Table) (survey : Survey) (counts : Counts) (row begin : ℕ) (sent : Sent) → IsScale (scale_of survey)
-    → (area_of (page_of table survey counts) row begin sent).left + (area_of (page_of table survey counts) row begin sent).width
+    (table : Table) (survey : Survey) (counts : Counts) (row begin : ℕ) (x : Shaded) → IsScale (scale_of survey)
+    → (area_of (page_of table survey counts) row begin x).left + (area_of (page_of table survey counts) row begin x).width
     ≤ breach_left
 
 -- Each transmission at which a fault is found has its mark in the row that is drawn of it, with what is found.
@@ -72,9 +73,9 @@ pub record IsSeenBetween (above below box : Area) : Type 0 where
 -- No mark of a fault hides a box.
 abbrev pub FaultHidesNone : Type 0
 FaultHidesNone =
-    (table : Table) (survey : Survey) (counts : Counts) (row begin left : ℕ) (sent : Sent)
+    (table : Table) (survey : Survey) (counts : Counts) (row begin left : ℕ) (x : Shaded) → x.shade < shades
     → IsSeenBetween (upper_part (page_of table survey counts) left row) (lower_part (page_of table survey counts) left row)
-    (area_of (page_of table survey counts) row begin sent)
+    (area_of (page_of table survey counts) row begin x)
 
 -- What is told of the rows of a window with a breach at this moment.
 abbrev pub survey_with : Table → Window → List Entry → Seen → ℕ → Survey

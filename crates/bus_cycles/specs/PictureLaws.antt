@@ -20,12 +20,12 @@ use Rattle.bus_cycles.specs.Cuts.{is_whole}
 use Rattle.bus_cycles.specs.CyclesTexts.{begins, breach_text, framed_in, listed_in, marks_text, page_in, survey_in, under_rows}
 use Rattle.bus_cycles.specs.Dues.{due_line, due_text, dues_text}
 use Rattle.bus_cycles.specs.Faults.{has_fault}
-use Rattle.bus_cycles.specs.Laws.{IsPartOf, drawing_of, kept}
+use Rattle.bus_cycles.specs.Laws.{IsPartOf, kept}
 use Rattle.bus_cycles.specs.Legends.{breach_legend, cut_legend, due_legend, fault_legend, garbled_legend, plain_legend}
 use Rattle.bus_cycles.specs.Listings.{Listed}
 use Rattle.bus_cycles.specs.Pages.{Page, page_of}
 use Rattle.bus_cycles.specs.Rows.{Row, extent_of, rows}
-use Rattle.bus_cycles.specs.RowTexts.{left_of}
+use Rattle.bus_cycles.specs.RowTexts.{Shaded, drawing_of, left_of}
 use Rattle.bus_cycles.specs.Surveys.{Survey, breach_in, is_drawn}
 
 -- ---- what lies under the rows
@@ -40,9 +40,9 @@ pub record LiesUnder (other front part whole : List ℕ) : Type 0 where
 -- frame, what stands above the rows, and the lines of offsets.
 abbrev pub MarksHideNoBox : Type 0
 MarksHideNoBox =
-    (frame : List ℕ) (window : Window) (verdict : TableVerdict) (told : Told) (table : Table) (trace : Recording) (row : Row) (sent : Sent)
-    → In row (rows table window trace.list) → In sent (kept (page_in window told table trace) row.begin [] row.sents)
-    → LiesUnder (drawing_of (page_in window told table trace) row.place row.begin sent)
+    (frame : List ℕ) (window : Window) (verdict : TableVerdict) (told : Told) (table : Table) (trace : Recording) (row : Row) (x : Shaded)
+    → In row (rows table window trace.list) → In x (kept (page_in window told table trace) row.begin [] row.sents)
+    → LiesUnder (drawing_of (page_in window told table trace) row.place row.begin x)
     (under_rows frame (page_in window told table trace) (survey_in window told table trace) window told table trace)
     (marks_text (page_in window told table trace) table verdict) (framed_in frame window verdict told table trace)
 

@@ -11,6 +11,7 @@ use Rattle.bus_pen.specs.Scales.{place}
 use Rattle.bus_pen.specs.declared.area.Area.{Area}
 use Rattle.bus_pen.specs.Shapes.{titled_text, words_text}
 use Rattle.bus_pen.specs.declared.measures.TheConstants as shapes
+pub use Rattle.bus_cycles.specs.declared.areas.Shaded.{Shaded}
 use Rattle.bus_cycles.specs.Cuts.{is_cut_before, is_cut_behind, is_whole}
 use Rattle.bus_cycles.specs.Rows.{Extent, Row, extent_of}
 use Rattle.bus_cycles.specs.Pages.{Page, top_of}
@@ -40,13 +41,37 @@ right_of page begin sent = max (pixel page begin sent.end) (left_of page begin s
 abbrev pub lane_in : Page → Sent → ℕ
 lane_in page sent = slice_index_or page.lanes sent.terminal 0
 
--- The slot of a garbled transmission: by its terminal's lane, so that a terminal keeps its slot and neighbours have different ones.
-abbrev pub slot_of : Page → Sent → ℕ
-slot_of page sent = lane_in page sent % slots
+-- Whether one of these transmissions, of a row that began at this moment, has this shade and reaches as far.
+abbrev pub is_reached : Page → ℕ → List Shaded → ℕ → ℕ → Bool
+is_reached page begin earlier tone right = list_any (λ y. y.shade == tone && nat_le right (right_of page begin y.sent)) earlier
+
+-- Whether a slot is free behind these where a box begins: none of them reaches further in it.
+abbrev pub is_free : Page → ℕ → List Shaded → ℕ → ℕ → Bool
+is_free page begin earlier left slot = not (is_reached page begin earlier (2 + slot) (left + 1))
+
+-- The first that is free of a slot and the two below it, where the highest is below the lowest; the slot itself where none is.
+abbrev pub free_slot : (ℕ → Bool) → ℕ → ℕ
+free_slot free own =
+    if free own then own
+    else (if free ((own + 1) % slots) then (own + 1) % slots else (if free ((own + 2) % slots) then (own + 2) % slots else own))
+
+-- The slot of a garbled transmission behind these: by its terminal's lane, so that a terminal mostly keeps its slot and neighbours have
+-- different ones, or another where that one isn't free.
+abbrev pub slot_of : Page → ℕ → List Shaded → Sent → ℕ
+slot_of page begin earlier sent = free_slot (is_free page begin earlier (left_of page begin sent)) (lane_in page sent % slots)
 
 -- Its shade: where it is garbled, by its slot, and else by its terminal's lane.
-abbrev pub shade : Page → Sent → ℕ
-shade page sent = if sent.garbled then 2 + slot_of page sent else lane_in page sent % 2
+abbrev pub shade : Page → ℕ → List Shaded → Sent → ℕ
+shade page begin earlier sent = if sent.garbled then 2 + slot_of page begin earlier sent else lane_in page sent % 2
+
+-- A transmission behind these, with its shade.
+abbrev pub shaded : Page → ℕ → List Shaded → Sent → Shaded
+shaded page begin earlier sent = record { sent = sent; shade = shade page begin earlier sent }
+
+-- Transmissions of a row behind these, each with its shade.
+abbrev pub all_shaded : Page → ℕ → List Shaded → List Sent → List Shaded
+all_shaded page begin earlier [] = earlier
+all_shaded page begin earlier (sent ∷ sents) = all_shaded page begin (earlier ++ shaded page begin earlier sent ∷ []) sents
 
 -- What a garbled one of this width is drawn as.
 abbrev pub garbled_class : ℕ → Class
@@ -69,12 +94,12 @@ abbrev pub height_of : Page → ℕ → ℕ
 height_of page shade = if nat_lt shade 2 then page.row_height - 2 * box_below else slot_height page - 2 * slot_below
 
 -- The area of a transmission in its row.
-abbrev pub area_of : Page → ℕ → ℕ → Sent → Area
-area_of page row begin sent = record {
-  left = left_of page begin sent;
-  top = top_of page row + below_top page (shade page sent);
-  width = right_of page begin sent - left_of page begin sent;
-  height = height_of page (shade page sent);
+abbrev pub area_of : Page → ℕ → ℕ → Shaded → Area
+area_of page row begin x = record {
+  left = left_of page begin x.sent;
+  top = top_of page row + below_top page x.shade;
+  width = right_of page begin x.sent - left_of page begin x.sent;
+  height = height_of page x.shade;
 }
 
 -- ---- boxes
@@ -95,21 +120,17 @@ number_text area sent =
     else []
 
 -- A transmission in an area: its box, and its number.
-abbrev pub sent_text : Page → Area → Sent → List ℕ
-sent_text page area sent = titled_text (class_of area.width (shade page sent)) area (sent_words sent) ++ number_text area sent
+abbrev pub sent_text : Area → Shaded → List ℕ
+sent_text area x = titled_text (class_of area.width x.shade) area (sent_words x.sent) ++ number_text area x.sent
 
 -- A text of a row, which is left out where the row isn't drawn.
 abbrev pub where_drawn : ℕ → List ℕ → List ℕ
 where_drawn row text = if is_drawn row then text else []
 
--- Whether one of these transmissions, of a row that began at this moment, has this shade and reaches as far.
-abbrev pub is_reached : Page → ℕ → List Sent → ℕ → ℕ → Bool
-is_reached page begin earlier tone right = list_any (λ y. shade page y == tone && nat_le right (right_of page begin y)) earlier
-
 -- Whether a transmission is left out of a row that has these: one of these has its shade and reaches as far, so that a box of its shade
 -- holds its own.
-abbrev pub is_left_out : Page → ℕ → List Sent → Sent → Bool
-is_left_out page begin earlier sent = is_reached page begin earlier (shade page sent) (right_of page begin sent)
+abbrev pub is_left_out : Page → ℕ → List Shaded → Sent → Bool
+is_left_out page begin earlier sent = is_reached page begin earlier (shade page begin earlier sent) (right_of page begin sent)
 
 -- A picture is drawn in two walks over its rows: in the first what is plain, in the second what is garbled. Whether a transmission is drawn
 -- in the walk for those that are garbled, or in that for the others.
@@ -120,17 +141,21 @@ is_due garbled sent = if garbled then sent.garbled else not sent.garbled
 abbrev pub where_due : Bool → Sent → List ℕ → List ℕ
 where_due garbled sent text = if is_due garbled sent then text else []
 
+-- What is drawn of a transmission.
+abbrev pub drawing_of : Page → ℕ → ℕ → Shaded → List ℕ
+drawing_of page row begin x = where_drawn row (sent_text (area_of page row begin x) x)
+
 -- What a transmission adds, in a walk, to a row that has these.
-abbrev pub box_behind : Page → Bool → ℕ → ℕ → List Sent → Sent → List ℕ
+abbrev pub box_behind : Page → Bool → ℕ → ℕ → List Shaded → Sent → List ℕ
 box_behind page garbled row begin earlier sent =
     if is_left_out page begin earlier sent then []
-    else where_due garbled sent (where_drawn row (sent_text page (area_of page row begin sent) sent))
+    else where_due garbled sent (drawing_of page row begin (shaded page begin earlier sent))
 
 -- What transmissions add to a row that has these.
-abbrev pub boxes : Page → Bool → ℕ → ℕ → List Sent → List Sent → List ℕ
+abbrev pub boxes : Page → Bool → ℕ → ℕ → List Shaded → List Sent → List ℕ
 boxes page garbled row begin earlier [] = []
 boxes page garbled row begin earlier (sent ∷ sents) =
-    box_behind page garbled row begin earlier sent ++ boxes page garbled row begin (earlier ++ sent ∷ []) sents
+    box_behind page garbled row begin earlier sent ++ boxes page garbled row begin (earlier ++ shaded page begin earlier sent ∷ []) sents
 
 -- ---- rows
 -- The line of the words of a row, in its middle.

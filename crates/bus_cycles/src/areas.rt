@@ -1,6 +1,8 @@
 //! Where the boxes of transmissions are.
-ghost use Rattle.std.specs.Prelude.{◌≡◌, ◌<◌, ◌≤◌, ◌^◌};
+ghost use Rattle.std.specs.Prelude.{◌≡◌, ◌<◌, ◌≤◌, ◌+◌, ◌^◌, List, nat_le, slice_index_or};
 ghost use Rattle.bus_cycles.specs.inside.Bounds.{IsPage, IsSent};
+ghost use Rattle.bus_cycles.specs.inside.Drawing.{Reaches};
+ghost use Rattle.bus_cycles.specs.declared.areas.Shaded as shading;
 ghost use Rattle.bus_cycles.specs.RowTexts as definition;
 
 use crate::cycle::Extent;
@@ -12,6 +14,9 @@ use bus_shapes::Sent;
 
 /// How many slots a row has for garbled transmissions.
 const SLOTS: usize = 3;
+
+/// How many shades there are: two, and one for each slot.
+pub(crate) const SHADES: usize = 5;
 
 /// The left edge of a transmission in a row that began at this moment.
 pub(crate) fn left_of(page: &Page, begin: u64, sent: &Sent) -> u64
@@ -35,14 +40,44 @@ pub(crate) fn right_of(page: &Page, begin: u64, sent: &Sent) -> u64
     page.pixel(begin, sent.end).max(left + PIXEL)
 }
 
-/// The shade of a transmission.
-pub(crate) fn shade_of(page: &Page, sent: &Sent) -> usize
-    ensures value { result ≡ definition.shade page.now sent.now }
+/// A transmission of a row, with its shade there: by its terminal's lane where it is plain, and by its slot where it is garbled.
+#[derive(Clone, Copy, Debug, PartialEq, Eq)]
+pub(crate) struct Shaded {
+    /// The transmission.
+    pub sent: Sent,
+    /// Its shade, below 5.
+    pub shade: usize,
+}
+
+/// The first that is free of a slot and the two below it, where each slot is reached up to an edge; the slot itself where none is.
+fn free_slot(edges: &[u64; SHADES], left: u64, own: usize) -> usize
+    requires { own < 3 }
+    ensures value { result ≡ definition.free_slot (λ slot. nat_le (slice_index_or edges.now (2 + slot) 0) left) own }
+    ensures low { result < 3 }
+{
+    let (next, last) = ((own + 1) % SLOTS, (own + 2) % SLOTS);
+    if edges[2 + own] <= left {
+        own
+    } else if edges[2 + next] <= left {
+        next
+    } else if edges[2 + last] <= left {
+        last
+    } else {
+        own
+    }
+}
+
+/// The shade of a transmission of a row that began at this moment, in which each shade is reached up to an edge.
+pub(crate) fn shade_of(page: &Page, begin: u64, edges: &[u64; SHADES], sent: &Sent) -> usize
+    requires page { IsPage page.now }
+    requires sent { IsSent sent.now }
+    ensures value { (earlier : List shading.Shaded) → Reaches page.now begin earlier edges.now
+        → result ≡ definition.shade page.now begin earlier sent.now }
     ensures low { result < 5 }
 {
     let lane = page.lanes[sent.terminal as usize];
     if sent.garbled {
-        2 + lane % SLOTS
+        2 + free_slot(edges, left_of(page, begin, sent), lane % SLOTS)
     } else {
         lane % 2
     }
@@ -108,22 +143,22 @@ fn height_of(page: &Page, shade: usize) -> u64
 }
 
 /// Where a transmission is.
-pub(crate) fn area_of(page: &Page, row: Extent, sent: &Sent) -> Area
+pub(crate) fn area_of(page: &Page, row: Extent, x: &Shaded) -> Area
     requires page { IsPage page.now }
-    requires sent { IsSent sent.now }
+    requires sent { IsSent x.now.sent }
+    requires shade { x.now.shade < 5 }
     requires drawn { row.place ≤ 500 }
-    ensures value { result ≡ definition.area_of page.now row.place row.begin sent.now }
+    ensures value { result ≡ definition.area_of page.now row.place row.begin x.now }
     ensures left { result.left < 2 ^ 21 }
     ensures top { result.top < 2 ^ 20 }
     ensures width { result.width < 2 ^ 22 }
     ensures height { result.height ≤ 300 }
 {
-    let shade = shade_of(page, sent);
-    let left = left_of(page, row.begin, sent);
+    let left = left_of(page, row.begin, &x.sent);
     Area {
         left,
-        top: page.top_of(row.place) + below_top(page, shade),
-        width: right_of(page, row.begin, sent) - left,
-        height: height_of(page, shade),
+        top: page.top_of(row.place) + below_top(page, x.shade),
+        width: right_of(page, row.begin, &x.sent) - left,
+        height: height_of(page, x.shade),
     }
 }

@@ -2,14 +2,14 @@
 ghost use Rattle.std.specs.Prelude.{◌≡◌, ◌<◌, ◌≤◌, ◌+◌, ◌++◌, [], ◌∷◌, ◌-◌, ◌^◌, List, length};
 ghost use Rattle.std.specs.List.{AllByRecursion};
 ghost use Rattle.bus_outer.specs.Texts.{Adds};
-ghost use Rattle.bus_shapes.specs.declared.sent.Sent as sayings;
 ghost use Rattle.bus_cycles.specs.inside.Drawing.{Keeps, Reaches, more_text, new_text, next_row, next_text};
 ghost use Rattle.bus_cycles.specs.inside.Bounds.{IsPage, IsSent};
 ghost use Rattle.bus_cycles.specs.Rows.{Row, row_at, rows_of, with_sent};
+ghost use Rattle.bus_cycles.specs.declared.areas.Shaded as shading;
 ghost use Rattle.bus_cycles.specs.RowTexts as definition;
 ghost use Rattle.bus_cycles.specs.Sents.{shown};
 
-use crate::areas::{area_of, class_of, right_of, shade_of};
+use crate::areas::{SHADES, Shaded, area_of, class_of, right_of, shade_of};
 use crate::cycle::Extent;
 use crate::measures::{LONG_NUMBER, MIDDLE_LINE, MIDDLE_NUMBER, SHORT_NUMBER};
 use crate::page::Page;
@@ -20,9 +20,6 @@ use bus_outer::{Sink, TextBuffer};
 use bus_pen::{Area, begin_titled, begin_words, digits_class, end_titled, end_words};
 use bus_shapes::{Sent, put_sent};
 use bus_trace::{Trace, Window};
-
-/// How many shades there are: two, and one for each slot.
-const SHADES: usize = 5;
 
 /// How wide the number of a terminal is, with a character around it.
 fn number_width(terminal: u8) -> u64
@@ -59,18 +56,18 @@ fn put_number<K: Sink>(text: &mut TextBuffer, sink: &mut K, area: Area, sent: &S
 }
 
 /// A transmission in an area: its box, and its number.
-fn put_in<K: Sink>(text: &mut TextBuffer, sink: &mut K, page: &Page, area: Area, sent: &Sent)
-    requires sent { IsSent sent.now }
+fn put_in<K: Sink>(text: &mut TextBuffer, sink: &mut K, area: Area, x: &Shaded)
+    requires sent { IsSent x.now.sent }
     requires left { area.left < 2 ^ 21 }
     requires top { area.top < 2 ^ 20 }
     requires width { area.width < 2 ^ 22 }
     requires height { area.height ≤ 300 }
-    ensures { Adds K.held K.faults sink.old sink.new text.old text.new (definition.sent_text page.now area sent.now) }
+    ensures { Adds K.held K.faults sink.old sink.new text.old text.new (definition.sent_text area x.now) }
 {
-    begin_titled(text, sink, class_of(area.width, shade_of(page, sent)), area);
-    put_sent(text, sink, sent);
+    begin_titled(text, sink, class_of(area.width, x.shade), area);
+    put_sent(text, sink, &x.sent);
     end_titled(text, sink);
-    put_number(text, sink, area, sent);
+    put_number(text, sink, area, &x.sent);
 }
 
 /// A transmission of a row, where that is drawn.
@@ -79,15 +76,15 @@ fn put_where_drawn<K: Sink>(
     sink: &mut K,
     page: &Page,
     row: Extent,
-    sent: &Sent,
+    x: &Shaded,
 )
     requires page { IsPage page.now }
-    requires sent { IsSent sent.now }
-    ensures { Adds K.held K.faults sink.old sink.new text.old text.new (definition.where_drawn row.place
-        (definition.sent_text page.now (definition.area_of page.now row.place row.begin sent.now) sent.now)) }
+    requires sent { IsSent x.now.sent }
+    requires shade { x.now.shade < 5 }
+    ensures { Adds K.held K.faults sink.old sink.new text.old text.new (definition.drawing_of page.now row.place row.begin x.now) }
 {
     if row.place < MOST_ROWS {
-        put_in(text, sink, page, area_of(page, row, sent), sent);
+        put_in(text, sink, area_of(page, row, x), x);
     }
 }
 
@@ -105,16 +102,16 @@ fn put_where_due<K: Sink>(
     page: &Page,
     garbled: bool,
     row: Extent,
-    sent: &Sent,
+    x: &Shaded,
 )
     requires page { IsPage page.now }
-    requires sent { IsSent sent.now }
-    ensures { Adds K.held K.faults sink.old sink.new text.old text.new (definition.where_due garbled sent.now
-        (definition.where_drawn row.place
-        (definition.sent_text page.now (definition.area_of page.now row.place row.begin sent.now) sent.now))) }
+    requires sent { IsSent x.now.sent }
+    requires shade { x.now.shade < 5 }
+    ensures { Adds K.held K.faults sink.old sink.new text.old text.new
+        (definition.where_due garbled x.now.sent (definition.drawing_of page.now row.place row.begin x.now)) }
 {
-    if is_due(garbled, sent) {
-        put_where_drawn(text, sink, page, row, sent);
+    if is_due(garbled, &x.sent) {
+        put_where_drawn(text, sink, page, row, x);
     }
 }
 
@@ -130,19 +127,20 @@ fn put_behind<K: Sink>(
 )
     requires page { IsPage page.now }
     requires sent { IsSent sent.now }
-    ensures adds { (earlier : List sayings.Sent) → Reaches page.now row.begin earlier edges.old
+    ensures adds { (earlier : List shading.Shaded) → Reaches page.now row.begin earlier edges.old
         → Adds K.held K.faults sink.old sink.new text.old text.new
         (definition.box_behind page.now garbled row.place row.begin earlier sent.now) }
-    ensures keeps { (earlier : List sayings.Sent) → Reaches page.now row.begin earlier edges.old
-        → Reaches page.now row.begin (earlier ++ sent.now ∷ []) edges.new }
+    ensures keeps { (earlier : List shading.Shaded) → Reaches page.now row.begin earlier edges.old
+        → Reaches page.now row.begin (earlier ++ definition.shaded page.now row.begin earlier sent.now ∷ []) edges.new }
 {
-    let shade = shade_of(page, sent);
+    let shade = shade_of(page, row.begin, edges, sent);
     let right = right_of(page, row.begin, sent);
     if right <= edges[shade] {
         return;
     }
     edges[shade] = right;
-    put_where_due(text, sink, page, garbled, row, sent);
+    let x = Shaded { sent: *sent, shade };
+    put_where_due(text, sink, page, garbled, row, &x);
 }
 
 /// The words of a row, and the first transmission of the next.

@@ -3,7 +3,8 @@
 ghost use Rattle.bus_cycles.specs.Laws.{CountsAreOfRows, CutAreOpen, EachIsDueOnce, EndsAreNamed, HatchedAreDrawnLast, HatchedAreGarbled};
 ghost use Rattle.bus_cycles.specs.Laws.{KeptAreDrawn, LastEndsAreOfRows, LeftOutAreCovered, LoadsAreShares, NeighboursDiffer};
 ghost use Rattle.bus_cycles.specs.Laws.{OpenHidesNone, RowsAreAPartition, RowsAreCounted, RowsAreCycles, RowsAreIntervals};
-ghost use Rattle.bus_cycles.specs.Laws.{RowsAreNumbered, RowsAscend, RowsHaveLastEnds, SlotsAreKept, ThreeLieApart, WholeAreCounted};
+ghost use Rattle.bus_cycles.specs.Laws.{RowsAreNumbered, RowsAscend, RowsHaveLastEnds, SlotsAreKept, ThreeAreKept, ThreeLieApart};
+ghost use Rattle.bus_cycles.specs.Laws.{WholeAreCounted};
 ghost use Rattle.bus_cycles.specs.Laws.{WholeAreSeen};
 ghost use Rattle.bus_cycles.specs.MarkLaws.{BreachHidesNone, BreachIsAtItsMoment, BreachWordHidesNone, CableIsUnmarked, FaultHidesNone};
 ghost use Rattle.bus_cycles.specs.MarkLaws.{FaultsAreMarked, NoFaultIsMarked, TheLastRowIsMarked};
@@ -157,14 +158,16 @@ pub fn neighbours_differ()
     ensures { NeighboursDiffer }
 {}
 
-/// A terminal keeps its slot: what of it is garbled lies at the same height in all rows.
+/// A terminal keeps its slot wherever that is free: so what of it is garbled lies at the same height in all rows.
 pub fn slots_are_kept()
     ensures { SlotsAreKept }
 {}
 
-/// Of any three senders, one behind the other in turn order, no two boxes of what is garbled meet in a row.
+/// What is garbled is drawn, and meets no box of what is garbled before it in its row, as long as at most two of these reach behind its
+/// beginning: of three that collide each is seen, whoever sends them.
 pub fn three_lie_apart()
-    ensures { ThreeLieApart }
+    ensures apart { ThreeLieApart }
+    ensures kept { ThreeAreKept }
 {}
 
 /// Where rows take the moment of the first breach, which the window has, one is marked, and none of them begins later.

@@ -1,5 +1,5 @@
 -- The lemmas of this crate.
-mod Apart
+pub mod Apart
 pub mod Orders
 pub mod Levels
 pub mod Designs

@@ -38,32 +38,32 @@ use Rattle.bus_design.proofs.Orders.{Facts, facts_from}
 use Rattle.bus_design.proofs.Plans.{ascends, sorted}
 
 -- ---- what gaps don't change
-abbrev number_of : Sender → List ℕ
+abbrev pub number_of : Sender → List ℕ
 number_of s = s.number ∷ []
 
-numbers_flat : (senders : List Sender) → flat_map number_of senders ≡ sender_numbers senders
+pub numbers_flat : (senders : List Sender) → flat_map number_of senders ≡ sender_numbers senders
 numbers_flat [] = refl
 numbers_flat (s ∷ senders) = ap (λ l. s.number ∷ l) (numbers_flat senders)
 
-numbers_kept : (senders : List Sender) (gaps : List ℕ) → length gaps ≡ length senders → sender_numbers (with_gaps senders gaps) ≡ sender_numbers senders
+pub numbers_kept : (senders : List Sender) (gaps : List ℕ) → length gaps ≡ length senders → sender_numbers (with_gaps senders gaps) ≡ sender_numbers senders
 numbers_kept [] gaps n = refl
 numbers_kept (s ∷ senders) [] n = absurd (let m : 0 ≡ length (s ∷ senders) = n in cc)
 numbers_kept (s ∷ senders) (x ∷ gaps) n =
     ap (λ l. s.number ∷ l) (numbers_kept senders gaps (let m : length (x ∷ gaps) ≡ length (s ∷ senders) = n in omega (arith, m)))
 
-lines_kept : (senders : List Sender) (gaps : List ℕ) → length gaps ≡ length senders → send_lines (with_gaps senders gaps) ≡ send_lines senders
+pub lines_kept : (senders : List Sender) (gaps : List ℕ) → length gaps ≡ length senders → send_lines (with_gaps senders gaps) ≡ send_lines senders
 lines_kept [] gaps n = refl
 lines_kept (s ∷ senders) [] n = absurd (let m : 0 ≡ length (s ∷ senders) = n in cc)
 lines_kept (s ∷ senders) (x ∷ gaps) n =
     ap (λ l. s.sends ++ l) (lines_kept senders gaps (let m : length (x ∷ gaps) ≡ length (s ∷ senders) = n in omega (arith, m)))
 
 -- a sender with another gap comes of one of them
-record Of (s : Sender) (senders : List Sender) : Type 0 where
-  own : Sender
-  among : In own senders
-  same : s ≡ at_gap s.tg own
+pub record Of (s : Sender) (senders : List Sender) : Type 0 where
+  pub own : Sender
+  pub among : In own senders
+  pub same : s ≡ at_gap s.tg own
 
-comes_of : (senders : List Sender) (gaps : List ℕ) (s : Sender) → In s (with_gaps senders gaps) → Of s senders
+pub comes_of : (senders : List Sender) (gaps : List ℕ) (s : Sender) → In s (with_gaps senders gaps) → Of s senders
 comes_of [] gaps s i = absurd i
 comes_of (a ∷ senders) [] s i = absurd i
 comes_of (a ∷ senders) (x ∷ gaps) s (inl e) =
@@ -72,11 +72,11 @@ comes_of (a ∷ senders) (x ∷ gaps) s (inr i) =
     let o = comes_of senders gaps s i in record { own = o.own; among = inr o.among; same = o.same }
 
 -- ---- tests of lists by their elements
-all_from : {X : Type 0} (p : X → Bool) (xs : List X) → ((x : X) → In x xs → p x ≡ true) → list_all p xs ≡ true
+pub all_from : {X : Type 0} (p : X → Bool) (xs : List X) → ((x : X) → In x xs → p x ≡ true) → list_all p xs ≡ true
 all_from p [] h = refl
 all_from p (x ∷ xs) h = and_from _ _ (h x (inl refl)) (all_from p xs (λ y i. h y (inr i)))
 
-all_at : {X : Type 0} (p : X → Bool) (xs : List X) → list_all p xs ≡ true → (x : X) → In x xs → p x ≡ true
+pub all_at : {X : Type 0} (p : X → Bool) (xs : List X) → list_all p xs ≡ true → (x : X) → In x xs → p x ≡ true
 all_at p [] h x i = absurd i
 all_at p (y ∷ ys) h x (inl e) = ap p e ∙ (and_parts (p y) _ h).0
 all_at p (y ∷ ys) h x (inr i) = all_at p ys (and_parts (p y) _ h).1 x i
@@ -93,16 +93,16 @@ some_sorted (a ∷ bs) h = some_inserted (sort (turn_key Aperiodic) bs) where
         | false ↦ refl
       ]
 
-some_made : (order : List Sender) (gaps : List ℕ) → no_sender order ≡ None → length gaps ≡ length order → no_sender (with_gaps order gaps) ≡ None
+pub some_made : (order : List Sender) (gaps : List ℕ) → no_sender order ≡ None → length gaps ≡ length order → no_sender (with_gaps order gaps) ≡ None
 some_made [] gaps h n = h
 some_made (s ∷ order) [] h n = absurd (let m : 0 ≡ length (s ∷ order) = n in cc)
 some_made (s ∷ order) (x ∷ gaps) h n = refl
 
 -- ---- the made table
-turned_number : (n m : ℕ) → (n == m) ≡ false → (m == n) ≡ false
+pub turned_number : (n m : ℕ) → (n == m) ≡ false → (m == n) ≡ false
 turned_number n m h = grind (arith, nat_tests, h)
 
-turned_pair : (a b : SendLine) → same_pair a b ≡ false → same_pair b a ≡ false
+pub turned_pair : (a b : SendLine) → same_pair a b ≡ false → same_pair b a ≡ false
 turned_pair a b h = grind (arith, nat_tests, h)
 
 in_numbers : (senders : List Sender) (x : ℕ) → In x (sender_numbers (sort (turn_key Aperiodic) senders)) → In x (sender_numbers senders)

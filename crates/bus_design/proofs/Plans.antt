@@ -29,7 +29,7 @@ ascends bounds sg x y within h =
       | inr r ↦ absurd (let m = least_time_more bounds y x within r in omega (arith, m, h))
     ]
 
-insert_front : (a : Sender) (bs : List Sender) → ((b : Sender) → In b bs → a.tg < b.tg) → insert (turn_key Aperiodic) a bs ≡ a ∷ bs
+pub insert_front : (a : Sender) (bs : List Sender) → ((b : Sender) → In b bs → a.tg < b.tg) → insert (turn_key Aperiodic) a bs ≡ a ∷ bs
 insert_front a [] h = refl
 insert_front a (b ∷ bs) h =
     let less : a.tg < b.tg = h b (inl refl) in

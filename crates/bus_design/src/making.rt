@@ -14,8 +14,8 @@ use bus_table::ranges::LEAST_TI;
 use bus_table::{Listener, Mode, Sender, Table, turn_at, turn_places};
 use std::alloc::{AllocError, Global};
 
-/// The sender with another terminal gap.
-fn with_gap(alloc: Global, sender: &Sender, tg: u32) -> Result<Sender, AllocError>
+/// The sender with another terminal gap. Fails only where memory runs out.
+pub fn with_gap(alloc: Global, sender: &Sender, tg: u32) -> Result<Sender, AllocError>
     requires { IsTrue (is_tg tg) }
     ensures { IfOk result (λ made. made ≡ others.at_gap tg sender.now) }
 {
@@ -46,8 +46,8 @@ fn listener_of(alloc: Global, listener: &Listener) -> Result<Listener, AllocErro
     Ok(Listener::new(listener.number(), takes).unwrap())
 }
 
-/// Equal listeners, in order.
-fn listeners_of(alloc: Global, listeners: &[Listener]) -> Result<Vec<Listener>, AllocError>
+/// Equal listeners, in order. Fails only where memory runs out.
+pub fn listeners_of(alloc: Global, listeners: &[Listener]) -> Result<Vec<Listener>, AllocError>
     ensures { IfOk result (λ made. made.items ≡ listeners.now) }
 {
     let mut made = Vec::with_capacity(alloc, listeners.len())?;

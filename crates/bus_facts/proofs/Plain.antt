@@ -140,8 +140,8 @@ plain_wait : (n : ℕ) (table : Table) (pace : Option Pace) → IsPlain (suc n) 
 plain_wait n table None = plain_null (suc n)
 plain_wait n table (Some pace) = plain_delayed n _ _
 
-plain_taken : (n : ℕ) (table : Table) (number : ℕ) (send : SendLine) → IsPlain (suc n) (takes.taken_by_value table number send)
-plain_taken n table number send =
+plain_taken : (n : ℕ) (table : Table) (own : ℕ) (send : SendLine) → IsPlain (suc n) (takes.taken_by_value table own send)
+plain_taken n table own send =
     plain_list n _ (plain_append n _ _ (each_plain n _ _ (λ (sender : Sender) i. plain_count n sender.number))
     (each_plain n _ _ (λ (listener : Listener) i. plain_count n listener.number)))
 
@@ -192,16 +192,16 @@ plain_feed n other take send =
     plain_object n _ (one n _ _ _ (plain_count n _) (one n _ _ _ (plain_string n _) (one n _ _ _ (plain_string n _) (one n _ _ _ (plain_count n _)
     (one n _ _ _ (plain_count n _) (one n _ _ _ (plain_count n other) (done n)))))))
 
-plain_feeder : (n number : ℕ) (take : TakeLine) (sender : Sender) → EachPlain (suc n) (takes.feeder_values number take sender)
-plain_feeder n number take sender =
-    plain_unless (suc n) (sender.number == number) _ (each_plain (suc n) (takes.feed_value sender.number take) _ (λ send i. plain_feed n sender.number take send))
+plain_feeder : (n own : ℕ) (take : TakeLine) (sender : Sender) → EachPlain (suc n) (takes.feeder_values own take sender)
+plain_feeder n own take sender =
+    plain_unless (suc n) (sender.number == own) _ (each_plain (suc n) (takes.feed_value sender.number take) _ (λ send i. plain_feed n sender.number take send))
 
-plain_take : (n : ℕ) (table : Table) (number : ℕ) (take : TakeLine) → IsPlain (suc (suc (suc n))) (takes.take_value table number take)
-plain_take n table number take =
+plain_take : (n : ℕ) (table : Table) (own : ℕ) (take : TakeLine) → IsPlain (suc (suc (suc n))) (takes.take_value table own take)
+plain_take n table own take =
     plain_object (suc (suc n)) _
     (one _ _ _ _ (plain_count _ _) (one _ _ _ _ (plain_ext _ take.ext)
-    (one _ _ _ _ (plain_list (suc n) _ (plain_flat (suc n) (takes.feeder_values number take) table.senders (plain_feeder n number take)))
-    (one _ _ _ _ (plain_count _ _) (one _ _ _ _ (plain_string _ _) (one _ _ _ _ (plain_count _ number) (done _)))))))
+    (one _ _ _ _ (plain_list (suc n) _ (plain_flat (suc n) (takes.feeder_values own take) table.senders (plain_feeder n own take)))
+    (one _ _ _ _ (plain_count _ _) (one _ _ _ _ (plain_string _ _) (one _ _ _ _ (plain_count _ own) (done _)))))))
 
 plain_taker : (n : ℕ) (table : Table) (taker : Taker) → EachPlain (suc (suc (suc n))) (takes.taker_values table taker)
 plain_taker n table taker = each_plain _ (takes.take_value table taker.number) taker.takes (λ take i. plain_take n table taker.number take)

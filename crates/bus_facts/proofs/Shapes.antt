@@ -1,5 +1,5 @@
 -- JSON values that have no float and nest no deeper than so much.
-use Rattle.std.proofs.Common.{◌≡◌, ℕ, suc, ◌≤◌, max, Bool, true, false, ◌||◌, List, [], ◌∷◌, ◌++◌, ◌×◌, if◌then◌else◌, map, inl, inr, arith, refl, ap, ◌∙◌}
+use Rattle.std.proofs.Common.{◌≡◌, ℕ, suc, ◌≤◌, max, Bool, true, false, ◌||◌, List, [], ◌∷◌, ◌++◌, if◌then◌else◌, map, inl, inr, arith, refl, ap, ◌∙◌}
 use Rattle.std.specs.List.{flat_map}
 use Rattle.bus_strings.specs.Members.{In}
 use Rattle.serde_json.specs.Data.{Data, array, object, Members, no_members, member, depth, items_depth, members_depth}
@@ -44,11 +44,16 @@ one_more n d ds a b = record {
   deep = both (depth d) (items_depth (items_of ds)) n a.deep b.deep;
 }
 
+or_false : (a b : Bool) → (a || b) ≡ false → (a ≡ false) × (b ≡ false)
+or_false true b h = absurd cc
+or_false false b h = (refl, h)
+
 parted : (n : ℕ) (d : Data) (ds : List Data) → EachPlain n (d ∷ ds) → IsPlain n d × EachPlain n ds
 parted n d ds h =
     let whole : (has_float d || items_have_float (items_of ds)) ≡ false = h.whole in
     let deep : max (depth d) (items_depth (items_of ds)) ≤ n = h.deep in
-    (record { whole = grind whole; deep = omega (arith, deep) }, record { whole = grind whole; deep = omega (arith, deep) })
+    let none = or_false (has_float d) (items_have_float (items_of ds)) whole in
+    (record { whole = none.0; deep = omega (arith, deep) }, record { whole = none.1; deep = omega (arith, deep) })
 
 pub each_plain : {A : Type 0} (n : ℕ) (f : A → Data) (xs : List A) → ((x : A) → In x xs → IsPlain n (f x)) → EachPlain n (map f xs)
 each_plain n f [] h = no_more n

@@ -55,7 +55,14 @@ takes_value table =
     ++ flat_map (λ listener. taker_values table (listener_taker listener)) table.listeners)
 
 -- The numbers of the terminals that take words of a SEND line, as they stand in the table.
+abbrev pub sender_numbers : ℕ → SendLine → List Sender → List Data
+sender_numbers number send senders = map (λ (sender : Sender). count sender.number) (filter (sender_takes number send) senders)
+
+abbrev pub listener_numbers : ℕ → SendLine → List Listener → List Data
+listener_numbers number send listeners = map (λ (listener : Listener). count listener.number) (filter (listener_takes number send) listeners)
+
+abbrev pub taken_values : Table → ℕ → SendLine → List Data
+taken_values table number send = sender_numbers number send table.senders ++ listener_numbers number send table.listeners
+
 abbrev pub taken_by_value : Table → ℕ → SendLine → Data
-taken_by_value table number send =
-    list (map (λ (sender : Sender). count sender.number) (filter (sender_takes number send) table.senders)
-    ++ map (λ (listener : Listener). count listener.number) (filter (listener_takes number send) table.listeners))
+taken_by_value table number send = list (taken_values table number send)

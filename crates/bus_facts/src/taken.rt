@@ -5,7 +5,7 @@ ghost use Rattle.serde_json.specs.View.{view};
 ghost use Rattle.bus_table.specs.Tables as tables;
 ghost use Rattle.bus_feeds.specs.Feeds as definitions;
 ghost use Rattle.bus_facts.specs.Values.{count};
-ghost use Rattle.bus_facts.specs.Takes as takes;
+ghost use Rattle.bus_facts.specs.Takes as told;
 
 use bus_feeds::{listener_takes, sender_takes};
 use bus_table::{Listener, SendLine, Sender, Table};
@@ -49,16 +49,28 @@ fn add_listeners(
 }
 
 /// The numbers of the terminals that take words of a SEND line of the terminal of this number.
+fn taken_values(
+    alloc: Global,
+    table: &Table,
+    number: u8,
+    send: &SendLine,
+) -> Result<Vec<Value>, AllocError>
+    ensures { IfOk result (λ values. map view values.items ≡ told.taken_values table.now number send.now) }
+{
+    let mut values = Vec::new(alloc);
+    add_senders(&mut values, number, send, table.senders())?;
+    add_listeners(&mut values, number, send, table.listeners())?;
+    Ok(values)
+}
+
+/// The same as one value.
 pub(crate) fn taken_by_value(
     alloc: Global,
     table: &Table,
     number: u8,
     send: &SendLine,
 ) -> Result<Value, AllocError>
-    ensures { IfOk result (λ value. view value ≡ takes.taken_by_value table.now number send.now) }
+    ensures { IfOk result (λ value. view value ≡ told.taken_by_value table.now number send.now) }
 {
-    let mut values = Vec::new(alloc);
-    add_senders(&mut values, number, send, table.senders())?;
-    add_listeners(&mut values, number, send, table.listeners())?;
-    Ok(Value::from(values))
+    Ok(Value::from(taken_values(alloc, table, number, send)?))
 }

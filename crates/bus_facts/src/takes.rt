@@ -4,7 +4,7 @@ ghost use Rattle.std.specs.List.{filter, flat_map};
 ghost use Rattle.serde_json.specs.View.{view};
 ghost use Rattle.bus_filter.specs.Received.{listener_taker, sender_taker};
 ghost use Rattle.bus_feeds.specs.Feeds as definitions;
-ghost use Rattle.bus_facts.specs.Takes as takes;
+ghost use Rattle.bus_facts.specs.Takes as told;
 
 use crate::values::{ext_text, label_text};
 use bus_feeds::{feeds, listener_takes, sender_takes, share_of};
@@ -15,7 +15,7 @@ use std::alloc::{AllocError, Global};
 
 /// The extension of a TAKE line; null where it has `*`.
 fn ext_or_null(alloc: Global, ext: Option<Ext>) -> Result<Value, AllocError>
-    ensures { IfOk result (λ value. view value ≡ takes.ext_or_null ext) }
+    ensures { IfOk result (λ value. view value ≡ told.ext_or_null ext) }
 {
     match ext {
         Some(ext) => Ok(Value::from(ext_text(alloc, ext)?)),
@@ -30,7 +30,7 @@ fn feed_value(
     take: &TakeLine,
     send: &SendLine,
 ) -> Result<Value, AllocError>
-    ensures { IfOk result (λ value. view value ≡ takes.feed_value other take.now send.now) }
+    ensures { IfOk result (λ value. view value ≡ told.feed_value other take.now send.now) }
 {
     let share = share_of(send, take);
     let ext = ext_text(alloc, send.ext)?;
@@ -39,7 +39,7 @@ fn feed_value(
         "always": share.always,
         "ext": ext,
         "label": label,
-        "most": share.always + share.sometimes,
+        "most": u32::from(share.always) + u32::from(share.sometimes),
         "never": share.never,
         "terminal": other
     })
@@ -54,7 +54,7 @@ fn add_feeds(
     sends: &[SendLine],
 ) -> Result<(), AllocError>
     ensures { IfOk result (λ _. map view values.new.items
-        ≡ map view values.old.items ++ takes.feed_values other take.now sends.now) }
+        ≡ map view values.old.items ++ told.feed_values other take.now sends.now) }
 {
     for send in sends {
         if feeds(send, take) {
@@ -73,7 +73,7 @@ fn add_feeder(
     sender: &Sender,
 ) -> Result<(), AllocError>
     ensures { IfOk result (λ _. map view values.new.items
-        ≡ map view values.old.items ++ takes.feeder_values number take.now sender.now) }
+        ≡ map view values.old.items ++ told.feeder_values number take.now sender.now) }
 {
     if sender.number() == number {
         return Ok(());
@@ -88,7 +88,7 @@ fn feeders(
     take: &TakeLine,
     senders: &[Sender],
 ) -> Result<Vec<Value>, AllocError>
-    ensures { IfOk result (λ values. map view values.items ≡ flat_map (takes.feeder_values number take.now) senders.now) }
+    ensures { IfOk result (λ values. map view values.items ≡ flat_map (told.feeder_values number take.now) senders.now) }
 {
     let mut values = Vec::new(alloc);
     for sender in senders {
@@ -104,7 +104,7 @@ fn take_value(
     number: u8,
     take: &TakeLine,
 ) -> Result<Value, AllocError>
-    ensures { IfOk result (λ value. view value ≡ takes.take_value table.now number take.now) }
+    ensures { IfOk result (λ value. view value ≡ told.take_value table.now number take.now) }
 {
     let ext = ext_or_null(alloc, take.ext)?;
     let feeds = feeders(alloc, number, take, table.senders())?;
@@ -128,7 +128,7 @@ fn add_takes(
     takes: &[TakeLine],
 ) -> Result<(), AllocError>
     ensures { IfOk result (λ _. map view values.new.items
-        ≡ map view values.old.items ++ map (takes.take_value table.now number) takes.now) }
+        ≡ map view values.old.items ++ map (told.take_value table.now number) takes.now) }
 {
     for take in takes {
         values.push(take_value(alloc, table, number, take)?)?;
@@ -144,7 +144,7 @@ fn add_of_senders(
     senders: &[Sender],
 ) -> Result<(), AllocError>
     ensures { IfOk result (λ _. map view values.new.items
-        ≡ map view values.old.items ++ flat_map (λ sender. takes.taker_values table.now (sender_taker sender)) senders.now) }
+        ≡ map view values.old.items ++ flat_map (λ sender. told.taker_values table.now (sender_taker sender)) senders.now) }
 {
     for sender in senders {
         add_takes(alloc, values, table, sender.number(), sender.takes())?;
@@ -160,7 +160,7 @@ fn add_of_listeners(
     listeners: &[Listener],
 ) -> Result<(), AllocError>
     ensures { IfOk result (λ _. map view values.new.items
-        ≡ map view values.old.items ++ flat_map (λ listener. takes.taker_values table.now (listener_taker listener)) listeners.now) }
+        ≡ map view values.old.items ++ flat_map (λ listener. told.taker_values table.now (listener_taker listener)) listeners.now) }
 {
     for listener in listeners {
         add_takes(alloc, values, table, listener.number(), listener.takes())?;
@@ -170,7 +170,7 @@ fn add_of_listeners(
 
 /// The TAKE lines of all terminals, as they stand in the table.
 pub(crate) fn takes_value(alloc: Global, table: &Table) -> Result<Value, AllocError>
-    ensures { IfOk result (λ value. view value ≡ takes.takes_value table.now) }
+    ensures { IfOk result (λ value. view value ≡ told.takes_value table.now) }
 {
     let mut values = Vec::new(alloc);
     add_of_senders(alloc, &mut values, table, table.senders())?;

@@ -2,7 +2,7 @@
 ghost use Rattle.std.specs.Prelude.{◌≡◌, ◌≢◌, ◌≤◌, ◌++◌, ℕ, List, Some, false, codes, IfOk, string_bytes};
 ghost use Rattle.serde_json.specs.Data.{depth};
 ghost use Rattle.serde_json.specs.Read.{read};
-ghost use Rattle.serde_json.specs.View.{view};
+ghost use Rattle.serde_json.specs.View.{members_view, view};
 ghost use Rattle.serde_json.specs.Written.{compact_text, has_float};
 ghost use Rattle.bus_table.specs.Gives.{Fails};
 ghost use Rattle.bus_table.specs.Reading.{answer_of};
@@ -10,13 +10,14 @@ ghost use Rattle.bus_table.specs.Stops.{stop_of};
 ghost use Rattle.bus_table.specs.declared.error.TableError.TheVariants.{Memory};
 ghost use Rattle.bus_regime.specs.Verdicts.{is_accepted, verdict_of};
 ghost use Rattle.bus_facts.specs.Facts as told;
+ghost use Rattle.bus_facts.specs.inside.Seen.{error_front};
 ghost use Rattle.bus_facts.specs.inside.Telling.{Tells};
 
 use crate::table::table_value;
 use crate::wrong::{text_value, whole_value};
 use bus_regime::verdict;
 use bus_table::{Table, TableError, Unread, read_or_stop};
-use serde_json::{Value, json};
+use serde_json::{Map, Value, put};
 use std::alloc::{AllocError, Global};
 
 /// The facts of a text.
@@ -28,27 +29,35 @@ pub struct Facts {
     pub accepted: bool,
 }
 
+/// The members that are told of a text that gives no valid table before its mode.
+fn error_front(alloc: Global, error: Value) -> Result<Map<String, Value>, AllocError>
+    ensures { IfOk result (λ map. members_view map.entries ≡ error_front (view error)) }
+{
+    let mut members = Map::new(alloc);
+    put(&mut members, alloc, "accepted", Value::from(false))?;
+    put(&mut members, alloc, "advices", Value::from(Vec::new(alloc)))?;
+    put(&mut members, alloc, "cycle", Value::Null)?;
+    put(&mut members, alloc, "error", error)?;
+    put(&mut members, alloc, "load", Value::Null)?;
+    put(&mut members, alloc, "margins", Value::Null)?;
+    Ok(members)
+}
+
 /// What is told of a text that gives no valid table: this error alone.
 fn error_value(alloc: Global, error: Value) -> Result<Value, AllocError>
     ensures { IfOk result (λ value. view value ≡ told.error_value (view error)) }
 {
-    json!(in alloc; {
-        "accepted": false,
-        "advices": [],
-        "cycle": null,
-        "error": error,
-        "load": null,
-        "margins": null,
-        "mode": null,
-        "senders": [],
-        "sg": null,
-        "spare": null,
-        "start": null,
-        "takes": [],
-        "ti": null,
-        "tolerance": null,
-        "verdict": null
-    })
+    let mut members = error_front(alloc, error)?;
+    put(&mut members, alloc, "mode", Value::Null)?;
+    put(&mut members, alloc, "senders", Value::from(Vec::new(alloc)))?;
+    put(&mut members, alloc, "sg", Value::Null)?;
+    put(&mut members, alloc, "spare", Value::Null)?;
+    put(&mut members, alloc, "start", Value::Null)?;
+    put(&mut members, alloc, "takes", Value::from(Vec::new(alloc)))?;
+    put(&mut members, alloc, "ti", Value::Null)?;
+    put(&mut members, alloc, "tolerance", Value::Null)?;
+    put(&mut members, alloc, "verdict", Value::Null)?;
+    Ok(Value::Object(members))
 }
 
 /// What is told of a text that gives no valid table, whose reading came to this.

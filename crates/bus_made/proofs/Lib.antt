@@ -1,3 +1,8 @@
 -- The lemmas of this crate.
-mod One
+pub mod One
 mod Places
+mod Inserted
+mod Freed
+mod Freest
+mod Lacking
+mod Late

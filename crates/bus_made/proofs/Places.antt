@@ -2,7 +2,7 @@
 use Rattle.std.specs.Prelude.{slice_get, IsSomeAnd}
 use Rattle.std.proofs.Common.{arith, ◌≡◌, ℕ, zero, suc, ◌≤◌, List, [], ◌∷◌, length, refl}
 use Rattle.bus_table.specs.Tables.{Sender}
-use Rattle.bus_made.specs.Texts.{number_at}
+use Rattle.bus_made.specs.Answers.{number_at}
 
 pub number_there : (senders : List Sender) (k n : ℕ) → IsSomeAnd (slice_get senders k) (λ sender. n ≡ sender.number) → n ≡ number_at senders k
 number_there [] k n h = absurd h

@@ -1,21 +1,14 @@
 -- The text of what is made, or of why nothing is.
-use Rattle.std.specs.Prelude.{ℕ, zero, suc, List, [], ◌∷◌, ◌++◌, codes, decimal, Option, Some, None}
+use Rattle.std.specs.Prelude.{ℕ, List, [], ◌∷◌, ◌++◌, codes, decimal, Option, Some, None}
 use Rattle.bus_table.specs.Canonical.{table_text}
-use Rattle.bus_table.specs.Tables.{Sender, Table}
-use Rattle.bus_table.specs.Turns.{turn_order}
 use Rattle.bus_best.specs.declared.blame.Rule.{Rule}
 use Rattle.bus_best.specs.declared.blame.Rule.TheVariants.{Joining, Drop, Opening}
 use Rattle.bus_best.specs.declared.blame.Needed.{Needed}
 use Rattle.bus_best.specs.declared.blame.Blame.{Blame}
 use Rattle.bus_best.specs.declared.blame.Blame.TheVariants.{Lasts, Whole, Gap, Waiting, Interval}
 use Rattle.bus_made.specs.declared.answer.Answer.{Answer}
-use Rattle.bus_made.specs.declared.answer.Answer.TheVariants.{Made, Infeasible}
-
--- The terminal number of the sender at a place.
-abbrev pub number_at : List Sender → ℕ → ℕ
-number_at [] place = 0
-number_at (a ∷ senders) zero = a.number
-number_at (a ∷ senders) (suc place) = number_at senders place
+use Rattle.bus_made.specs.declared.wish.Lack.{Lack}
+use Rattle.bus_made.specs.declared.answer.Answer.TheVariants.{Made, Infeasible, Late}
 
 -- A rule, a terminal, what is needed and the most there is.
 abbrev pub blame_line : List ℕ → ℕ → ℕ → ℕ → List ℕ
@@ -34,18 +27,23 @@ rule_word Joining = codes "joining"
 rule_word Drop = codes "drop"
 rule_word Opening = codes "opening"
 
-abbrev pub waiting_line : List Sender → Option Needed → List ℕ
-waiting_line order None = whole_line (codes "waiting") 1025 1024
-waiting_line order (Some needed) = blame_line (codes "waiting") (number_at order needed.place) needed.bits 256
+abbrev pub waiting_line : ℕ → Option Needed → List ℕ
+waiting_line terminal None = whole_line (codes "waiting") 1025 1024
+waiting_line terminal (Some needed) = blame_line (codes "waiting") terminal needed.bits 256
 
-abbrev pub blame_text : List Sender → Blame → List ℕ
-blame_text order (Lasts place needed have) = blame_line (codes "lasts") (number_at order place) needed have
-blame_text order (Whole needed) = whole_line (codes "whole") needed 1024
-blame_text order (Gap needed) = blame_line (rule_word needed.rule) (number_at order needed.place) needed.bits 256
-blame_text order (Waiting needed) = waiting_line order needed
-blame_text order Interval = interval_line
+abbrev pub blame_text : ℕ → Blame → List ℕ
+blame_text terminal (Lasts place needed have) = blame_line (codes "lasts") terminal needed have
+blame_text terminal (Whole needed) = whole_line (codes "whole") needed 1024
+blame_text terminal (Gap needed) = blame_line (rule_word needed.rule) terminal needed.bits 256
+blame_text terminal (Waiting needed) = waiting_line terminal needed
+blame_text terminal Interval = interval_line
 
--- The canonical text of the made table, or the line of what is to blame.
-abbrev pub answer_text : Table → Answer → List ℕ
-answer_text table (Made made) = table_text made
-answer_text table (Infeasible blame) = blame_text (turn_order table) blame
+abbrev pub age_line : Lack → List ℕ
+age_line lack =
+    codes "INFEASIBLE age " ++ decimal lack.terminal ++ 32 ∷ [] ++ decimal lack.least ++ 32 ∷ [] ++ decimal lack.wished ++ 10 ∷ []
+
+-- The canonical text of the made table, or the line of what is to blame, or of the wish that is lacking: the least age and the wish.
+abbrev pub answer_text : Answer → List ℕ
+answer_text (Made made) = table_text made
+answer_text (Infeasible terminal blame) = blame_text terminal blame
+answer_text (Late lack) = age_line lack

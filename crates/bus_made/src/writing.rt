@@ -2,31 +2,21 @@
 ghost use Rattle.std.specs.Prelude.{◌≡◌};
 ghost use Rattle.bus_outer.specs.Sinks.{WritesText};
 ghost use Rattle.bus_outer.specs.Texts.{Adds};
-ghost use Rattle.bus_table.specs.Turns.{turn_order};
+ghost use Rattle.bus_made.specs.declared.answer.Answer.TheVariants.{Late};
 ghost use Rattle.bus_made.specs.Texts as texts;
 ghost use Rattle.bus_best.specs.declared.blame.Blame.TheVariants.{Gap};
 
 use crate::answer::Answer;
+use crate::wish::Lack;
 use bus_best::{Blame, Needed, Rule};
 use bus_outer::{Sink, TextBuffer, WriteFault};
-use bus_table::{Table, place, write_table};
+use bus_table::write_table;
 
 /// The greatest terminal gap, in bit times.
 const MOST_TG: u64 = 256;
 
 /// The greatest synchronization gap.
 const MOST_SG: u64 = 1024;
-
-/// The terminal number of the sender at a place in turn order, and 0 behind the last.
-fn number_at(table: &Table, k: usize) -> u8
-    ensures { result ≡ texts.number_at (turn_order table.now) k }
-{
-    if k < table.senders().len() {
-        place(table, k)
-    } else {
-        0
-    }
-}
 
 /// Puts the line of a rule at a terminal.
 fn put_blame_line<K: Sink>(
@@ -50,6 +40,19 @@ fn put_blame_line<K: Sink>(
     text.put_byte(sink, b'\n');
 }
 
+/// Puts the line of the wish that is lacking.
+fn put_age<K: Sink>(text: &mut TextBuffer, sink: &mut K, lack: Lack)
+    ensures { Adds K.held K.faults sink.old sink.new text.old text.new (texts.answer_text (Late lack)) }
+{
+    text.put(sink, b"INFEASIBLE age ");
+    text.put_number(sink, lack.terminal);
+    text.put_byte(sink, b' ');
+    text.put_number(sink, lack.least);
+    text.put_byte(sink, b' ');
+    text.put_number(sink, lack.wished);
+    text.put_byte(sink, b'\n');
+}
+
 /// Puts the line of a rule of no terminal by itself.
 fn put_whole_line<K: Sink>(
     text: &mut TextBuffer,
@@ -70,10 +73,9 @@ fn put_whole_line<K: Sink>(
 }
 
 /// Puts the line of a rule that asks for a terminal gap.
-fn put_gap<K: Sink>(text: &mut TextBuffer, sink: &mut K, table: &Table, needed: Needed)
-    ensures { Adds K.held K.faults sink.old sink.new text.old text.new (texts.blame_text (turn_order table.now) (Gap needed)) }
+fn put_gap<K: Sink>(text: &mut TextBuffer, sink: &mut K, terminal: u8, needed: Needed)
+    ensures { Adds K.held K.faults sink.old sink.new text.old text.new (texts.blame_text terminal (Gap needed)) }
 {
-    let terminal = number_at(table, needed.place);
     match needed.rule {
         Rule::Joining => put_blame_line(text, sink, b"joining", terminal, needed.bits, MOST_TG),
         Rule::Drop => put_blame_line(text, sink, b"drop", terminal, needed.bits, MOST_TG),
@@ -82,52 +84,56 @@ fn put_gap<K: Sink>(text: &mut TextBuffer, sink: &mut K, table: &Table, needed: 
 }
 
 /// Puts the line of what asks for more where gaps are to be over before another's synchronization gap.
-fn put_waiting<K: Sink>(text: &mut TextBuffer, sink: &mut K, table: &Table, needed: Option<Needed>)
-    ensures { Adds K.held K.faults sink.old sink.new text.old text.new (texts.waiting_line (turn_order table.now) needed) }
+fn put_waiting<K: Sink>(text: &mut TextBuffer, sink: &mut K, terminal: u8, needed: Option<Needed>)
+    ensures { Adds K.held K.faults sink.old sink.new text.old text.new (texts.waiting_line terminal needed) }
 {
     match needed {
-        Some(needed) => {
-            let terminal = number_at(table, needed.place);
-            put_blame_line(text, sink, b"waiting", terminal, needed.bits, MOST_TG);
-        }
+        Some(needed) => put_blame_line(text, sink, b"waiting", terminal, needed.bits, MOST_TG),
         None => put_whole_line(text, sink, b"waiting", MOST_SG + 1, MOST_SG),
     }
 }
 
 /// Puts the line of what is to blame.
-fn put_blame<K: Sink>(text: &mut TextBuffer, sink: &mut K, table: &Table, blame: Blame)
-    ensures { Adds K.held K.faults sink.old sink.new text.old text.new (texts.blame_text (turn_order table.now) blame) }
+fn put_blame<K: Sink>(text: &mut TextBuffer, sink: &mut K, terminal: u8, blame: Blame)
+    ensures { Adds K.held K.faults sink.old sink.new text.old text.new (texts.blame_text terminal blame) }
 {
     match blame {
-        Blame::Lasts {
-            place,
-            needed,
-            have,
-        } => {
-            put_blame_line(text, sink, b"lasts", number_at(table, place), needed, have);
+        Blame::Lasts { needed, have, .. } => {
+            put_blame_line(text, sink, b"lasts", terminal, needed, have);
         }
         Blame::Whole { needed } => put_whole_line(text, sink, b"whole", needed, MOST_SG),
-        Blame::Gap(needed) => put_gap(text, sink, table, needed),
-        Blame::Waiting(needed) => put_waiting(text, sink, table, needed),
+        Blame::Gap(needed) => put_gap(text, sink, terminal, needed),
+        Blame::Waiting(needed) => put_waiting(text, sink, terminal, needed),
         Blame::Interval => text.put(sink, b"INFEASIBLE interval - - -\n"),
     }
 }
 
-/// Writes the line of what is to blame for a table.
-fn write_blame<K: Sink>(table: &Table, blame: Blame, sink: &mut K) -> Result<(), WriteFault>
-    ensures { WritesText K.held K.faults sink.old sink.new result (texts.blame_text (turn_order table.now) blame) }
+/// Writes the line of what is to blame.
+fn write_blame<K: Sink>(terminal: u8, blame: Blame, sink: &mut K) -> Result<(), WriteFault>
+    ensures { WritesText K.held K.faults sink.old sink.new result (texts.blame_text terminal blame) }
 {
     let mut text = TextBuffer::new();
-    put_blame(&mut text, sink, table, blame);
+    put_blame(&mut text, sink, terminal, blame);
     text.finish(sink)
 }
 
-/// Writes what is made of a table: the canonical text of the made one, or the line of what is to blame. It takes no memory.
-pub fn write_design<K: Sink>(table: &Table, answer: &Answer, sink: &mut K) -> Result<(), WriteFault>
-    ensures { WritesText K.held K.faults sink.old sink.new result (texts.answer_text table.now answer.now) }
+/// Writes the line of the wish that is lacking.
+fn write_late<K: Sink>(lack: Lack, sink: &mut K) -> Result<(), WriteFault>
+    ensures { WritesText K.held K.faults sink.old sink.new result (texts.answer_text (Late lack)) }
+{
+    let mut text = TextBuffer::new();
+    put_age(&mut text, sink, lack);
+    text.finish(sink)
+}
+
+/// Writes what is made of a table: the canonical text of the made one, or the line of what is to blame, or of the wish that is lacking. It
+/// takes no memory.
+pub fn write_design<K: Sink>(answer: &Answer, sink: &mut K) -> Result<(), WriteFault>
+    ensures { WritesText K.held K.faults sink.old sink.new result (texts.answer_text answer.now) }
 {
     match answer {
         Answer::Made(made) => write_table(made, sink),
-        Answer::Infeasible(blame) => write_blame(table, *blame, sink),
+        Answer::Infeasible { terminal, blame } => write_blame(*terminal, *blame, sink),
+        Answer::Late(lack) => write_late(*lack, sink),
     }
 }

@@ -1,6 +1,7 @@
 -- The legend of a time line. Its notes are constants of the crate, in units of a tenth of a pixel.
 use Rattle.std.specs.Prelude.{ℕ, ◌+◌, Bool, List, ◌++◌}
-use Rattle.bus_pen.specs.Legends.{Sample, note_text}
+use Rattle.bus_pen.specs.Legends.{note_text}
+use Rattle.bus_pen.specs.declared.legend.Sample.{Sample}
 use Rattle.bus_picture.specs.declared.kinds.Kinds.{Kinds}
 use Rattle.bus_picture.specs.declared.legend.TheConstants as the
 use Rattle.bus_picture.specs.declared.legend.TheConstants.{LEGEND_ROW as legend_row, LEGEND_WORDS as legend_words}

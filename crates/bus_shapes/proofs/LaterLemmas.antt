@@ -1,10 +1,9 @@
 -- A late start is the next of its terminal.
 use Rattle.std.specs.Prelude.{◌&&◌, ◌==◌, nat_lt}
-use Rattle.std.proofs.Common.{◌≡◌, ℕ, ◌+◌, ◌-◌, ◌<◌, ◌≤◌, Bool, true, false, cond, List, [], ◌∷◌, Option, Some, None, inl, inr, arith, refl, sym, ap, subst, ◌∙◌}
-use Rattle.std.specs.List.{AllByRecursion, find}
+use Rattle.std.proofs.Common.{◌≡◌, ℕ, ◌-◌, ◌<◌, ◌≤◌, Bool, true, false, cond, List, [], ◌∷◌, Some, None, inl, inr, arith, refl, sym, ap, subst, ◌∙◌}
+use Rattle.std.specs.List.{find}
 use Rattle.std.specs.Option.{option_map}
 use Rattle.std.proofs.lemmas.Bool.{and_parts, cases_lt, eqb-true, eq-eqb, lt-ltb, ltb-true, true≢false}
-use Rattle.bus_strings.specs.Members.{In}
 use Rattle.bus_strings.specs.Messages.{Entry}
 use Rattle.bus_strings.specs.Transmissions.{IsByMoment}
 use Rattle.bus_strings.proofs.MemberLaws.{of_each}

@@ -4,14 +4,15 @@ use Rattle.bus_strings.specs.Messages.{Entry}
 use Rattle.bus_regime.specs.declared.table_verdict.TableVerdict.{TableVerdict}
 use Rattle.bus_regime.specs.Lines.{verdict_words}
 use Rattle.bus_table.specs.Tables.{Table}
-use Rattle.bus_pen.specs.Classes.{Answer, Background, Note}
-use Rattle.bus_pen.specs.Classes as classes
+use Rattle.bus_pen.specs.declared.area.Area.{Area}
+use Rattle.bus_pen.specs.declared.class.Class.TheVariants.{Answer, Background, Note}
+use Rattle.bus_pen.specs.declared.class.Class.TheVariants as classes
 use Rattle.bus_shapes.specs.Headings.{Told, Audit, OnCable, Findings, sending_words, told_heading, told_words, verdict_class}
 use Rattle.bus_shapes.specs.Headings.{verdict_heading}
 use Rattle.bus_pen.specs.Numbers.{counted, parted}
 use Rattle.bus_pen.specs.Styles.{fault_style, style_text}
 use Rattle.bus_shapes.specs.Sayings.{table_words}
-use Rattle.bus_pen.specs.Shapes.{Area, box_text, words_text}
+use Rattle.bus_pen.specs.Shapes.{box_text, words_text}
 pub use Rattle.bus_shapes.specs.declared.counts.Counts.{Counts}
 use Rattle.bus_pen.specs.declared.measures.TheConstants.{ANSWER_LINE as answer_line, FACTS_LINE as facts_line, HEAD_LINE as head_line}
 use Rattle.bus_pen.specs.declared.measures.TheConstants.{LEFT_MARGIN as left_margin, PICTURE_WIDTH as picture_width, PIXEL as pixel}

@@ -17,7 +17,8 @@ use Rattle.bus_bounds.specs.Bounds.{Bounds}
 use Rattle.bus_findings.specs.declared.judgement.Judgement.{Judgement}
 use Rattle.bus_findings.specs.Terminals.{fault_sum}
 use Rattle.bus_findings.specs.Texts.{within_words}
-use Rattle.bus_pen.specs.Classes.{Class, Verdict, Refusal}
+use Rattle.bus_pen.specs.declared.class.Class.{Class}
+use Rattle.bus_pen.specs.declared.class.Class.TheVariants.{Verdict, Refusal}
 use Rattle.bus_shapes.specs.Later.{later}
 use Rattle.bus_pen.specs.Numbers.{parted, parted_microseconds}
 use Rattle.bus_pen.specs.Numbers.{counted, plainly_counted}

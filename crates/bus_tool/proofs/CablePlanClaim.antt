@@ -1,11 +1,8 @@
 -- What is claimed of `plan` with a delay.
-use Rattle.std.specs.Prelude.{◌≡◌, ◌≢◌, ◌⊎◌, ℕ, ◌≤◌, true, ◌&&◌, ◌==◌, nat_le, IsTrue, List, [], Some, None, codes, length}
-use Rattle.std.proofs.Common.{arith, sym, ap, ◌∙◌, subst, cond, inl, inr}
+use Rattle.std.specs.Prelude.{◌≡◌, ◌≢◌, ◌⊎◌, ℕ, true, ◌==◌, nat_le, IsTrue, [], Some, None, codes, length, ◌∷◌}
+use Rattle.std.proofs.Common.{arith, refl, sym, ap, ◌∙◌, subst, cond, inl, inr}
 use Rattle.std.proofs.lemmas.Bool.{cases_Bool}
 use Rattle.std.proofs.lemmas.Bool.Decides.{nat_tests}
-use Rattle.std.specs.Option.{option_map}
-use Rattle.std.specs.Str.{bytes_eq}
-use Rattle.bus_text.specs.Numbers.{IsDecimal, decimal_value}
 use Rattle.bus_table.specs.Canonical.{table_text}
 use Rattle.bus_table.specs.Ranges.{most_ti}
 use Rattle.bus_table.specs.declared.mode.Mode.TheVariants.{Periodic}

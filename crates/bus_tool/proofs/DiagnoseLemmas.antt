@@ -1,5 +1,5 @@
 -- What is due of two texts of which one stands beside the other, and what is claimed of them.
-use Rattle.std.specs.Prelude.{◌≡◌, ℕ, ◌≤◌, Bool, true, false, nat_lt, IsErrAnd, IsTrue, List, length, Result, Ok, Err, Vec}
+use Rattle.std.specs.Prelude.{◌≡◌, ℕ, ◌≤◌, Bool, true, false, nat_lt, IsErrAnd, IsTrue, List, length, Result, Ok, Err, Vec, codes, ◌∷◌, []}
 use Rattle.std.specs.declared.alloc.Global.{Global}
 use Rattle.std.proofs.Common.{arith, cond, refl, sym, ap, ◌∙◌, subst}
 use Rattle.std.proofs.lemmas.Result.{err_from_is_err_and}

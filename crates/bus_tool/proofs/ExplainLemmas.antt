@@ -190,8 +190,8 @@ tells_accepted laws table valid accepted = record {
   gaps = λ mode gap i. behind laws table gap valid mode accepted i;
   tolerance = tells laws.reach table valid accepted;
   offsets = λ mode d is. laws.offsets d table valid mode is;
-  drifting = λ mode. tells_turns laws.drift drifting table (record { range = drifting_range; valid = valid; mode = mode });
   keeping = λ mode. tells_margins laws.margins drifting table drifting_range (record { valid = valid; mode = mode });
+  drifting = λ mode. tells_turns laws.drift drifting table (record { range = drifting_range; valid = valid; mode = mode });
   collides = λ mode never. laws.never table valid mode never;
   work = λ advice is. laws.works table advice valid is;
   settles = λ ti is. settles_with laws table ti (laws.works table (Start ti) valid is);

@@ -1,8 +1,7 @@
 -- What is claimed of what is found in a recording.
-use Rattle.std.specs.Prelude.{◌≡◌, true, ◌&&◌, not, false, [], ◌∷◌, codes, Option, Some, None}
+use Rattle.std.specs.Prelude.{◌≡◌, not, false, ◌∷◌, codes, Some, None}
 use Rattle.std.proofs.Common.{ap, ◌∙◌, cond, refl, subst, sym}
-use Rattle.bus_text.specs.Numbers.{decimal_value}
-use Rattle.bus_bounds.specs.Bounds.{Bounds, most_clocks}
+use Rattle.bus_bounds.specs.Bounds.{Bounds}
 use Rattle.bus_table.specs.Tables.{Table}
 use Rattle.bus_trace.specs.Traces.{Recording, IsTrace}
 use Rattle.bus_findings.specs.Laws.{KeepersAreUnblamed, AmountsAreTold, FilesAreUnblamed, CourseFilesAreUnblamed, GoodFileHasNoFault, CourseFileHasNoFault}
@@ -20,7 +19,6 @@ use Rattle.bus_tool.specs.Refusals.{Outcome, status_of}
 use Rattle.bus_tool.specs.Replies.{Is, TheFindings, yes_or_no}
 use Rattle.bus_tool.proofs.AnswerLaws.{written_findings}
 use Rattle.bus_tool.proofs.GroupClaims.{ReadLaws, trace_answers}
-use Rattle.bus_tool.proofs.MarginsClaim.{within_is, bounds_with}
 use Rattle.bus_tool.proofs.ReplyLemmas.{findings_status, replies, with_status}
 
 -- the laws by which it holds
@@ -72,7 +70,7 @@ pub findings_claim : ReadLaws → FindingsLaws → (call : Call) (outcome : Outc
 findings_claim texts laws call outcome bounds table trace acts h = (
   with_status call (status_of outcome) _ _ (Is (TheFindings bounds table trace)) (findings_status (has_fault bounds table trace))
       (replies call (status_of outcome) _ (TheFindings bounds table trace) _ tt refl
-      (trace_answers texts (Diagnose bounds) (codes "diagnose") (h.delay ∷ h.jitter ∷ h.clocks ∷ []) call outcome table trace
+      (trace_answers texts (Diagnose bounds) (codes "diagnose") h.behind call outcome table trace
       (diagnose_form bounds table trace call h) (written_findings (has_fault bounds table trace)) acts h.traced)),
   tells laws call bounds table trace h,
 )

@@ -1,5 +1,5 @@
 -- The words of a form.
-use Rattle.std.specs.Prelude.{◌≡◌, ◌≢◌, ℕ, ◌≤◌, true, false, ◌&&◌, nat_eq, take, List, [], ◌∷◌, None, Ok, Some, length, slice_index_or, String}
+use Rattle.std.specs.Prelude.{◌≡◌, ◌≢◌, ℕ, ◌≤◌, Bool, true, false, ◌&&◌, nat_eq, take, List, [], ◌∷◌, None, Ok, length, slice_index_or, String}
 use Rattle.std.specs.Char.{is_ascii_digit}
 use Rattle.std.specs.declared.alloc.Global.{Global}
 use Rattle.std.specs.String.{string_bytes}
@@ -10,9 +10,11 @@ use Rattle.std.proofs.lemmas.Bool.Decides.{nat_tests}
 use Rattle.std.proofs.lemmas.List.{length-map, length-take-le}
 use Rattle.bus_text.specs.Numbers.{is_plain_decimal}
 use Rattle.bus_options.proofs.PlainLaws.{plain_line}
-use Rattle.bus_options.specs.Options.{ArePlain, Line, Options, is_option, line_of, no_options}
+use Rattle.bus_options.specs.declared.line.Line.{Line}
+use Rattle.bus_options.specs.declared.options.Options.{Options}
+use Rattle.bus_options.specs.Options.{ArePlain, is_option, line_of, no_options}
 use Rattle.bus_command.specs.Words.{words_of}
-use Rattle.bus_tool.specs.Forms.{Form, form_by, form_of, form_with, four_words, one_word, three_words, two_words}
+use Rattle.bus_tool.specs.Forms.{form_by, form_of, form_with, four_words, one_word, three_words, two_words}
 
 -- ---- plain words by their number
 take_none : {X : Type 0} (xs : List X) → take 0 xs ≡ []
@@ -115,13 +117,17 @@ front_three a b c behind options = ap (λ rest. form_with (a ∷ b ∷ c ∷ res
 pub plain_with : (a b c : List ℕ) (further : List (List ℕ)) → ArePlain (a ∷ b ∷ c ∷ []) → ArePlain further → ArePlain (a ∷ b ∷ c ∷ further)
 plain_with a b c further p q = (p.0, (p.1.0, (p.1.1.0, q)))
 
-digit_is : (byte : ℕ) → is_ascii_digit byte ≡ true → nat_eq byte 45 ≡ false
+digit_is : (byte : ℕ) → is_ascii_digit byte ≡ true → nat_eq 45 byte ≡ false
 digit_is byte h = grind (arith, nat_tests)
+
+and_no : (b : Bool) → (b && false) ≡ false
+and_no true = refl
+and_no false = refl
 
 -- a plain decimal is one
 pub decimal_plain : (word : List ℕ) → is_plain_decimal word ≡ true → is_option word ≡ false
 decimal_plain [] h = refl
-decimal_plain (a ∷ []) h = refl
+decimal_plain (a ∷ []) h = and_no (nat_eq 45 a)
 decimal_plain (a ∷ b ∷ rest) h =
     let digits : is_ascii_digit a ≡ true = (and_parts _ _ (and_parts _ _ h).1).0 in
-    ap (λ x. x && (nat_eq b 45 && true)) (digit_is a digits)
+    ap (λ x. x && (nat_eq 45 b && true)) (digit_is a digits)

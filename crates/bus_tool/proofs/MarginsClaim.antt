@@ -1,9 +1,7 @@
 -- What is claimed of the margins of a table.
-use Rattle.std.specs.Prelude.{◌≡◌, ℕ, ◌≤◌, true, ◌&&◌, nat_le, List, Option, Some, None}
-use Rattle.std.proofs.Common.{arith, ap, ◌∙◌, cond}
-use Rattle.std.proofs.lemmas.Bool.Decides.{nat_tests}
-use Rattle.bus_text.specs.Numbers.{IsDecimal, decimal_value}
-use Rattle.bus_bounds.specs.Bounds.{Bounds, AreBounds, most_delay, most_jitter, most_clocks}
+use Rattle.std.specs.Prelude.{◌≡◌, codes, Some, None}
+use Rattle.std.proofs.Common.{ap, ◌∙◌, cond}
+use Rattle.bus_bounds.specs.Bounds.{Bounds, AreBounds}
 use Rattle.bus_table.specs.declared.mode.Mode.TheVariants.{Aperiodic, Periodic}
 use Rattle.bus_table.specs.Tables.{Table}
 use Rattle.bus_regime.specs.Verdicts.{verdict_of}

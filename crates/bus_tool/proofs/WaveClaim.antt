@@ -1,5 +1,5 @@
 -- What is claimed of `wave` and `unwave`.
-use Rattle.std.specs.Prelude.{◌≡◌, List, Result, Ok, Err}
+use Rattle.std.specs.Prelude.{◌≡◌, List, Result, Ok, Err, ◌∷◌, [], codes}
 use Rattle.std.proofs.Common.{refl, ap, ◌∙◌, subst}
 use Rattle.bus_table.specs.Tables.{Table, Hand}
 use Rattle.bus_trace.specs.Traces.{Recording, trace_text}

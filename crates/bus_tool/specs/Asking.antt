@@ -17,7 +17,8 @@ use Rattle.bus_wave.specs.WaveLaws.{IsWaveTrace}
 use Rattle.bus_wave.specs.WaveTexts.{IsWaveText}
 use Rattle.bus_command.specs.About.{IsAbout}
 use Rattle.bus_options.specs.Bounding.{AreNear, bounds_of, near_bounds_of}
-use Rattle.bus_options.specs.Options.{Options, is_option}
+use Rattle.bus_options.specs.declared.options.Options.{Options}
+use Rattle.bus_options.specs.Options.{is_option}
 use Rattle.bus_options.specs.Taken.{HasOptions}
 use Rattle.bus_options.specs.Taken as taken
 use Rattle.bus_units.specs.Quantities.{bit_time}

@@ -51,8 +51,8 @@ pub record StartsBehind (table : Table) (gap : Gap) : Type 0 where
 --   gaps        the senders of a periodic table start behind the gaps that are told of them, one for each in turn order
 --   tolerance   as the tolerance line tells it
 --   offsets     where it is periodic, some offsets bear the delay that is told to be the greatest, and none bear more
---   drifting    where it is periodic and oscillators are off by up to 50 millionths, its senders keep their turns as that sentence tells it
---   keeping     where it is aperiodic, its order comes or stands then as its sentence tells it
+--   keeping     where it is aperiodic and oscillators are off by up to 50 millionths, its order comes or stands as its sentence tells it
+--   drifting    where it is periodic, its senders keep their turns then as that sentence tells it
 --   collides    where it is aperiodic and never parts, its senders can collide in every cycle, for ever
 --   work        with the advised transmit interval it is accepted and starts itself, and with no greater one
 --   settles     so that, with that, its order comes about from any start
@@ -65,8 +65,8 @@ pub record ExplainsAccepted (table : Table) : Type 0 where
   pub tolerance : TellsTolerance table
   pub offsets : table.mode ≡ Periodic → (d : ℕ) → most_borne_of table ≡ Some d
       → ((made : Table) × IsPlanOf d table made) × NoneBear (d + 1) table
-  pub drifting : table.mode ≡ Periodic → TellsTurns drifting table
   pub keeping : table.mode ≡ Aperiodic → TellsMargins drifting table
+  pub drifting : table.mode ≡ Periodic → TellsTurns drifting table
   pub collides : table.mode ≡ Aperiodic → IsTrue (never_parts table) → CollideForEver table
   pub work : (advice : Advice) → In advice (advices_of table) → AdviceWorks table advice
   pub settles : (ti : ℕ) → In (Start ti) (advices_of table) → SettlesFromAnyStart (with_interval ti table)

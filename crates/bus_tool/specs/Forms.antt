@@ -14,9 +14,14 @@ use Rattle.bus_table.specs.Ranges.{most_ti}
 use Rattle.bus_trace.specs.Limits.{trace_limit}
 use Rattle.bus_vectors.specs.Made.{most_number}
 use Rattle.bus_command.specs.About.{about_of}
-pub use Rattle.bus_options.specs.Bounding.{PastLimit, bounds_of, most_near_delay, most_near_jitter, near_bounds_of}
-pub use Rattle.bus_options.specs.Options.{Line, Options, OptionError, line_of, no_options}
-pub use Rattle.bus_options.specs.Taken.{OptionSet, takes}
+pub use Rattle.bus_options.specs.declared.bounding.PastLimit.{PastLimit}
+pub use Rattle.bus_options.specs.Bounding.{bounds_of, most_near_delay, most_near_jitter, near_bounds_of}
+pub use Rattle.bus_options.specs.declared.line.Line.{Line}
+pub use Rattle.bus_options.specs.declared.options.Options.{Options}
+pub use Rattle.bus_options.specs.declared.line.OptionError.{OptionError}
+pub use Rattle.bus_options.specs.Options.{line_of, no_options}
+pub use Rattle.bus_options.specs.declared.taken.OptionSet.{OptionSet}
+pub use Rattle.bus_options.specs.Taken.{takes}
 use Rattle.bus_options.specs.Taken as taken
 use Rattle.bus_command.specs.Readers.{Reader, Entire}
 pub use Rattle.bus_tool.specs.declared.forms.Form.{Form}

@@ -14,12 +14,16 @@ type Call<'a> = (&'a [&'a str], &'a str, &'a str);
 const CALLS: [Call<'static>; 24] = [
     (&["check", "T"], TWO_SENDERS, ""),
     (&["tolerance", "T"], TWO_SENDERS, ""),
-    (&["margins", "T", "500", "125", "100"], TWO_SENDERS, ""),
+    (
+        &["margins", "T", "--delay=500ns", "--clocks=100ppm"],
+        TWO_SENDERS,
+        "",
+    ),
     (&["explain", "T"], TWO_SENDERS, ""),
     (&["report", "T"], TWO_SENDERS, ""),
     (&["facts", "T"], TWO_SENDERS, ""),
     (&["plan", "T"], TWO_PERIODIC_SENDERS, ""),
-    (&["plan", "T", "4"], TWO_PERIODIC_SENDERS, ""),
+    (&["plan", "T", "--delay", "4bt"], TWO_PERIODIC_SENDERS, ""),
     (&["plan", "T", "best"], TWO_PERIODIC_SENDERS, ""),
     (&["drill", "0"], "", ""),
     (&["--version"], "", ""),
@@ -33,7 +37,7 @@ const CALLS: [Call<'static>; 24] = [
     (&["receive", "T", "R"], LONG_GAP, ONE_EACH_SEEN),
     (&["audit", "T", "R"], LONG_GAP, ONE_EACH_SEEN),
     (
-        &["diagnose", "T", "R", "0", "0", "0"],
+        &["diagnose", "T", "R", "--delay", "0bt"],
         LONG_GAP,
         ONE_EACH_SEEN,
     ),

@@ -6,7 +6,9 @@ use Rattle.std.specs.String.{string_bytes}
 use Rattle.std.proofs.Common.{arith, refl, sym, ap, ◌∙◌}
 use Rattle.std.proofs.lemmas.List.{length-map, length-take-le}
 use Rattle.bus_options.specs.Words.{words_of}
-use Rattle.bus_options.specs.Options.{Line, Options, line_of}
+use Rattle.bus_options.specs.declared.line.Line.{Line}
+use Rattle.bus_options.specs.declared.options.Options.{Options}
+use Rattle.bus_options.specs.Options.{line_of}
 use Rattle.bus_view.specs.Forms.{OnTrace, form_by, form_of, form_with, one_word, page_of, view_of}
 
 -- ---- plain words by their number

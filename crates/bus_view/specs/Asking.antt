@@ -8,7 +8,7 @@ use Rattle.bus_trace.specs.Windows.{Window, IsWindow}
 use Rattle.bus_dump.specs.declared.dump.Dump.TheVariants.{Vcd, Wires, Timers}
 use Rattle.bus_command.specs.About.{IsAbout}
 use Rattle.bus_options.specs.Bounding.{AreNear, bounds_of, near_bounds_of}
-use Rattle.bus_options.specs.Options.{Options}
+use Rattle.bus_options.specs.declared.options.Options.{Options}
 use Rattle.bus_options.specs.Taken.{HasOptions}
 use Rattle.bus_options.specs.Taken as taken
 use Rattle.bus_command.specs.Claims.{IsOfTraced, NothingFails}

@@ -12,8 +12,12 @@ use Rattle.bus_dump.specs.declared.dump.Dump.TheVariants as dump
 use Rattle.bus_trace.specs.Windows.{Window}
 use Rattle.bus_bounds.specs.Bounds.{Bounds}
 use Rattle.bus_command.specs.About.{about_of}
-pub use Rattle.bus_options.specs.Bounding.{PastLimit, bounds_of, most_near_delay, near_bounds_of}
-pub use Rattle.bus_options.specs.Options.{Line, OptionError, Options, line_of, no_options}
+pub use Rattle.bus_options.specs.declared.bounding.PastLimit.{PastLimit}
+pub use Rattle.bus_options.specs.Bounding.{bounds_of, most_near_delay, near_bounds_of}
+pub use Rattle.bus_options.specs.declared.line.Line.{Line}
+pub use Rattle.bus_options.specs.declared.line.OptionError.{OptionError}
+pub use Rattle.bus_options.specs.declared.options.Options.{Options}
+pub use Rattle.bus_options.specs.Options.{line_of, no_options}
 pub use Rattle.bus_options.specs.Taken.{takes}
 use Rattle.bus_options.specs.Taken as taken
 pub use Rattle.bus_view.specs.declared.words.NoWindow.{NoWindow}

@@ -15,30 +15,38 @@ Change Dumps (IEEE 1364), which wave viewers such as GTKWave read (sigrok and Pu
 and as SVG pictures, which browsers show; and on a table one HTML page for who reviews it. What it
 writes is proved.
 
-  bus629-view vcd T R [FROM TO]     the dump of the trace in the file R, on the table in the file T:
+  bus629-view vcd T R [WINDOW]      the dump of the trace in the file R, on the table in the file T:
                                     the bus, with the first breach, and each sender or other
                                     terminal that sends
-  bus629-view wires T R [FROM TO]   its signals of one bit alone
-  bus629-view timers T R [FROM TO]  the dump with the timers of each sender, and where it may start
-  bus629-view gtkw T R [FROM TO]    the save file with which GTKWave shows all signals of any of
+  bus629-view wires T R [WINDOW]    its signals of one bit alone
+  bus629-view timers T R [WINDOW]   the dump with the timers of each sender, and where it may start
+  bus629-view gtkw T R [WINDOW]     the save file with which GTKWave shows all signals of any of
                                     these dumps
-  bus629-view svg T R [FROM TO]     the trace as a time line, with a lane for each terminal
-  bus629-view cycles T R [FROM TO]  a row for each cycle, for long traces
-  bus629-view svg T R D J P [FROM TO]
-                                    the time line with each fault that diagnose T R D J P of bus629
-                                    finds, by timer and amount
-  bus629-view cycles T R D J P [FROM TO]
-                                    the rows with these faults
-  bus629-view page T                the page on the table in the file T, without any trace: verdict,
-                                    cycles, what limits it, and where data wait
-  bus629-view page T D J P          the page with the room that margins T D J P of bus629 tells
+  bus629-view svg T R [BOUNDS] [WINDOW]
+                                    the trace as a time line, with a lane for each terminal; with
+                                    bounds with each fault that diagnose of bus629 finds within
+                                    them, by timer and amount
+  bus629-view cycles T R [BOUNDS] [WINDOW]
+                                    a row for each cycle, for long traces; with bounds with these
+                                    faults
+  bus629-view page T [BOUNDS]       the page on the table in the file T, without any trace: verdict,
+                                    cycles, what limits it, and where data wait; with bounds with
+                                    the room that margins of bus629 tells within them
   bus629-view --help                this text
   bus629-view --version             the version of the program, and of each text that it reads
 
-FROM and TO are moments in bit times of half a microsecond: what is written is of the bit times from
-FROM to below TO, or in cycles of what begins there; without them of all of the trace. D (0 to 9) and
-J (0 to 255) are in bit times, P (0 to 1000) in millionths: how exact the recorded bus is. In page,
-D (0 to 1000000) and J (0 to 100000) are in nanoseconds.
+WINDOW and BOUNDS are options, in any order behind the files:
+
+  --from F, --to G   what is written is of the bit times from F to below G, or in cycles of what
+                     begins there; from the first moment on without --from, of all of the trace
+                     without both
+  --delay D, --jitter J, --clocks P
+                     how exact the recorded bus is, one or more, up to 9bt, 255bt and 1000ppm; in
+                     page the bus of the table, up to 1ms, 100us and 1000ppm; what isn't given is 0
+
+F, G, D and J are written 600ns, 1.5us, 2ms or 3bt, bit times of half a microsecond, with at most
+three places behind the point, and rounded up to bit times but in page. --to=3bt is the same as
+--to 3bt. A file whose name begins with -- is written ./--.
 
 What run, drop, observe, cable and unwave of bus629 write is a trace. The status is 0 where the text
 is written, 1 where the page says that T gives no accepted table, 2 where the words are no command,

@@ -1,5 +1,6 @@
 //! The words of a command line, and the form that they have.
 ghost use Rattle.std.specs.Prelude.{◌≡◌, ◌≤◌, IfSome, length, take};
+ghost use Rattle.std.specs.Option.{option_map};
 ghost use Rattle.bus_options.specs.Bounding.{most_near_delay};
 ghost use Rattle.bus_options.specs.Words.{words_of};
 ghost use Rattle.bus_view.specs.Forms as forms;

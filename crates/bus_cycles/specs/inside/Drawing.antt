@@ -4,23 +4,20 @@ use Rattle.bus_outer.specs.Texts.{Adds}
 use Rattle.bus_outer.specs.declared.text_buffer.TextBuffer.{TextBuffer}
 use Rattle.bus_shapes.specs.declared.sent.Sent.{Sent}
 use Rattle.bus_cycles.specs.Rows.{Extent, Row, extent_of, is_new, row_at, rows_from, with_sent}
+use Rattle.bus_cycles.specs.Measures.{shades}
 use Rattle.bus_cycles.specs.Pages.{Page}
-use Rattle.bus_cycles.specs.RowTexts.{box_behind, boxes, ending_text, is_reached, walk_text}
-
--- How many shades there are.
-abbrev pub shades : ℕ
-shades = 5
+use Rattle.bus_cycles.specs.RowTexts.{Shaded, all_shaded, box_behind, boxes, ending_text, is_reached, walk_text}
 
 -- For each shade is kept how far these transmissions reach.
-pub record Reaches (page : Page) (begin : ℕ) (sents : List Sent) (edges : List ℕ) : Type 0 where
+pub record Reaches (page : Page) (begin : ℕ) (earlier : List Shaded) (edges : List ℕ) : Type 0 where
   pub long : length edges ≡ shades
   pub edges_are : (tone right : ℕ) → tone < shades → 0 < right
-      → nat_le right (slice_index_or edges tone 0) ≡ is_reached page begin sents tone right
+      → nat_le right (slice_index_or edges tone 0) ≡ is_reached page begin earlier tone right
 
 -- What is kept of a row.
 pub record Keeps (page : Page) (row : Row) (extent : Extent) (edges : List ℕ) : Type 0 where
   pub extent_is : extent ≡ extent_of row
-  pub reaches : Reaches page row.begin row.sents edges
+  pub reaches : Reaches page row.begin (all_shaded page row.begin [] row.sents) edges
 
 -- A row with the next transmission, or the row that begins with that.
 abbrev pub next_row : Page → Row → Sent → Row
@@ -34,7 +31,7 @@ new_text page garbled row sent =
 
 -- What it adds where it goes on with its row.
 abbrev pub more_text : Page → Bool → Row → Sent → List ℕ
-more_text page garbled row sent = box_behind page garbled row.place row.begin row.sents sent
+more_text page garbled row sent = box_behind page garbled row.place row.begin (all_shaded page row.begin [] row.sents) sent
 
 -- What the next transmission adds in a walk.
 abbrev pub next_text : Page → Bool → Row → Sent → List ℕ

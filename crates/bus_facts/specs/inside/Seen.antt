@@ -1,11 +1,12 @@
 -- What contracts see of what is told of a table.
-use Rattle.std.specs.Prelude.{◌≡◌, Bool, codes}
+use Rattle.std.specs.Prelude.{◌≡◌, Bool, false, [], codes}
 use Rattle.serde_json.specs.Data.{Data, Members, boolean, null, member, no_members}
 use Rattle.serde_json.specs.View.{view}
 use Rattle.bus_table.specs.Tables.{Table}
 use Rattle.bus_regime.specs.Verdicts.{verdict_of, is_accepted}
 use Rattle.bus_advice.specs.Advices.{advices_of}
 use Rattle.bus_facts.specs.Advised.{advices_value}
+use Rattle.bus_facts.specs.Values.{list}
 use Rattle.bus_facts.specs.Starts.{start_value}
 use Rattle.bus_facts.specs.Verdicts.{verdict_value}
 use Rattle.bus_facts.specs.declared.table.Figures.{Figures}
@@ -33,6 +34,16 @@ first_members accepted advices cycle load margins =
     (member (codes "error") null
     (member (codes "load") load
     (member (codes "margins") margins no_members)))))
+
+-- Those that are told of a text that gives no valid table.
+abbrev pub error_front : Data → Members
+error_front error =
+    member (codes "accepted") (boolean false)
+    (member (codes "advices") (list [])
+    (member (codes "cycle") null
+    (member (codes "error") error
+    (member (codes "load") null
+    (member (codes "margins") null no_members)))))
 
 -- What stands beside them is the table's.
 pub record AreHeadsOf (table : Table) (heads : Heads) : Type 0 where

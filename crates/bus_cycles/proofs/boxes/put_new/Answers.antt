@@ -3,7 +3,7 @@ use Rattle.bus_outer.specs.Texts.{Adds}
 use Rattle.bus_outer.proofs.TextLaws.{◌▸◌}
 use Rattle.bus_cycles.specs.inside.Drawing.{Reaches}
 use Rattle.bus_cycles.specs.Rows.{Extent, extent_of, row_at}
-use Rattle.bus_cycles.specs.RowTexts.{box_behind, ending_text}
+use Rattle.bus_cycles.specs.RowTexts.{box_behind, ending_text, shaded}
 use Rattle.bus_cycles.proofs.DrawLemmas.{reaches_none}
 use Rattle.bus_cycles.proofs.boxes.put_new.Goals as goal
 
@@ -26,6 +26,6 @@ returns-clause-keeps g c was keeps =
     let same = c.row_at.ensures.value ∙ ap (λ (e : Extent). extent_of (row_at page.cycle (e.place + 1) sent)) keeps.extent_is in
     record {
       extent_is = same;
-      reaches = subst (λ (e : Extent). Reaches page e.begin (sent ∷ []) c.put_behind.new.edges) same
+      reaches = subst (λ (e : Extent). Reaches page e.begin (shaded page e.begin [] sent ∷ []) c.put_behind.new.edges) same
           (c.put_behind.ensures.keeps [] (reaches_none page c.row_at.result.begin));
     }

@@ -1,5 +1,4 @@
 use Rattle.std.proofs.Common.{refl, ap}
-use Rattle.bus_command.specs.Acts.{written}
 use Rattle.bus_command.specs.Readers.{entire, one_source}
 use Rattle.bus_command.proofs.DoLaws.{answered, roomless}
 use Rattle.std.proofs.Common.{arith}

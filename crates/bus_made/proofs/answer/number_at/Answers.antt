@@ -2,7 +2,7 @@ use Rattle.std.proofs.Common.{arith, ◌≡◌, length, ap}
 use Rattle.bus_table.specs.Turns.{turn_order}
 use Rattle.bus_table.proofs.TurnLaws.{order_length}
 use Rattle.bus_made.proofs.Places.{number_behind, number_there}
-use Rattle.bus_made.proofs.writing.number_at.Goals as goal
+use Rattle.bus_made.proofs.answer.number_at.Goals as goal
 
 pub returns-then-k-senders : goal.returns-then-k-senders
 returns-then-k-senders c = number_there (turn_order c.args.table.now) c.args.k c.place.result c.place.ensures
