@@ -82,9 +82,7 @@ else may lack then.\n",
         sentence: b"Where oscillators are off by up to 50 millionths and nothing else is inexact, from power-ups at one \
 moment and with no delay \
 on the way, nothing is promised of the senders' turns: terminal 2 may be late, and hold terminal 5 back until terminal 1 is \
-due too. It would be enough against that if the lengths of the messages from terminal 2 on and before terminal 5 varied by \
-about 91 bit times less in all, or if terminal 5 stood behind terminal 1 in the order from terminal 2 on; something else may \
-lack then.\n",
+due too: there lacks about 91 bit times. A longer terminal gap of terminal 1 or a shorter one of terminal 5 may mend that.\n",
     },
 ];
 
