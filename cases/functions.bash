@@ -159,6 +159,7 @@ planted() {
   cp "$HERE/bus629" "$HERE/bus629-view" tree/
   cp "$HERE/scripts/launch" tree/scripts/launch
   cp "$HERE/docs/bus629.help" "$HERE/docs/bus629-view.help" "$HERE/docs/bus629.1" tree/docs/
+  cp "$HERE"/docs/{RULES,PLAN,RECORD,FORMATS,PICTURES,CLAIMS}.md tree/docs/
   cp "$HERE/crates/bus_tool/src/itself.rt" tree/crates/bus_tool/src/
   cp "$HERE/crates/bus_view/src/itself.rt" tree/crates/bus_view/src/
   cp -r "$HERE/scripts/completions" tree/scripts/
